@@ -1,0 +1,8 @@
+// The two byte formats: checked views over a litmus program (a card) and a list of moves (a sheet).
+mod fields;
+mod instr;
+
+pub use instr::Instr;
+pub use instr::InstrDebug;
+pub use instr::InstrDisplay;
+pub use instr::InstrPartialEq;
