@@ -1,1 +1,4 @@
+mod Acceptance
 mod Decoding
+mod Firsts
+mod Threads

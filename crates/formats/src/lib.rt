@@ -1,7 +1,11 @@
 // The two byte formats: checked views over a litmus program (a card) and a list of moves (a sheet).
+mod addressing;
+mod card;
 mod fields;
 mod instr;
 
+pub use addressing::address;
+pub use card::Card;
 pub use instr::Instr;
 pub use instr::InstrDebug;
 pub use instr::InstrDisplay;

@@ -1,0 +1,8 @@
+use native.Mathlib.Omega.{arith}
+use Rattle.formats.proofs.Threads.{thread-length}
+use Rattle.formats.proofs.card.Card.thread_len.Needs as need
+
+pub returns : need.returns
+returns c =
+    let card = c .args .self .now in
+    thread-length (card .bytes .now) (card .ok) (c .args .processor) (omega arith)
