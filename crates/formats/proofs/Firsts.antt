@@ -3,10 +3,14 @@ use mathlib.Core.Bool.{Bool, true, false}
 use mathlib.Core.Path.{_≡_, refl, sym, ap, subst, _∙_}
 use Prim.Native.Nat.{ℕ, zero, suc, _+_, _-_, _<_, _≤_}
 use native.Mathlib.Omega.{arith}
+use Rattle.std.specs.Options.{isSome}
 use Rattle.std.specs.declared.option.Option.{Option}
 use Rattle.std.specs.declared.option.Option.the-variants.{Some, None}
+use Rattle.std.specs.declared.result.Result.{Result}
+use Rattle.std.specs.declared.result.Result.the-variants.{Ok, Err}
+use Rattle.std.proofs.shelf.Tests.{true≢false}
 use Rattle.model.specs.declared.fault.Fault.{Fault}
-use Rattle.formats.specs.Checks.{check, first, firstOf}
+use Rattle.formats.specs.Checks.{AcceptsExactly, check, first, firstOf, verdict}
 
 none-some : (fault : Fault) → Some fault ≡ None → ⊥
 none-some fault e = let z : _≡_ {A = ℕ} 0 1 = cc in omega arith
@@ -62,3 +66,14 @@ module _ (f : ℕ → Option Fault) where
 
   pub all-none : (n : ℕ) → ((k : ℕ) → k < n → f k ≡ None) → firstOf f 0 n ≡ None
   all-none n h = none-from 0 n (λ k l. let z : 0 + k ≡ k = omega arith in ap f z ∙ h k l)
+
+pub no-fault : {T : Type 0} (o : Option T) → isSome o ≡ false → o ≡ None
+no-fault None e = refl
+no-fault (Some x) e = absurd (true≢false e)
+
+accepted : (o : Option Fault) → verdict o ≡ Ok tt → o ≡ None
+accepted None e = refl
+accepted (Some fault) e = let z : _≡_ {A = ℕ} 0 1 = cc in absurd (omega arith)
+
+pub accepts : {Rules : Type 0} (o : Option Fault) (r : Result (Unit {0}) Fault) → r ≡ verdict o → (o ≡ None → Rules) → (Rules → o ≡ None) → AcceptsExactly Rules r
+accepts o r e to from = record { sound = λ h. to (accepted o (sym e ∙ h)); complete = λ h. e ∙ ap verdict (from h) }

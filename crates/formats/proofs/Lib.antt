@@ -1,4 +1,9 @@
-mod Acceptance
-mod Decoding
+mod CardAcceptance
+mod Choosing
 mod Firsts
+mod InstrDecoding
+mod MoveDecoding
+mod Records
+mod Schedules
+mod SheetAcceptance
 mod Threads

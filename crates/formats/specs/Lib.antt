@@ -4,4 +4,9 @@ pub mod Cards
 pub mod Checks
 pub mod Fields
 pub mod Instrs
+pub mod Moves
 pub mod Programs
+pub mod Records
+pub mod Schedules
+pub mod SheetRules
+pub mod Sheets

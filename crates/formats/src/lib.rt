@@ -3,6 +3,8 @@ mod addressing;
 mod card;
 mod fields;
 mod instr;
+mod moves;
+mod sheet;
 
 pub use addressing::address;
 pub use card::Card;
@@ -10,3 +12,8 @@ pub use instr::Instr;
 pub use instr::InstrDebug;
 pub use instr::InstrDisplay;
 pub use instr::InstrPartialEq;
+pub use moves::Move;
+pub use moves::MoveDebug;
+pub use moves::MoveDisplay;
+pub use moves::MovePartialEq;
+pub use sheet::Sheet;

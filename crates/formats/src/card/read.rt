@@ -1,31 +1,29 @@
 // What a card says: the program that its bytes stand for.
 ghost use mathlib.Core.Path.{_≡_};
-ghost use Prim.Native.Nat.{_<_};
 ghost use lib.ListN.{length};
 ghost use Rattle.std.specs.shelf.Maps.{nth};
-ghost use Rattle.formats.specs.Cards.{countAt, offsetAt, processorsIn};
-ghost use Rattle.formats.specs.Programs.{program};
+ghost use Rattle.formats.specs.Programs.{programOf};
 use crate::card::Card;
 use crate::instr::Instr;
 
 impl Card<'_> {
     // How many processors the program has: 1 to 4.
     pub fn processors(&self) -> u8
-        ensures { λ r. ⌜ r ≡ program (now (now (self .entry) .bytes)) .processors ⌝ }
+        ensures { λ r. ⌜ r ≡ programOf (now (self .entry)) .processors ⌝ }
     {
         self.bytes[0]
     }
 
     // How many addresses the program has: 1 to 8.
     pub fn addresses(&self) -> u8
-        ensures { λ r. ⌜ r ≡ program (now (now (self .entry) .bytes)) .addresses ⌝ }
+        ensures { λ r. ⌜ r ≡ programOf (now (self .entry)) .addresses ⌝ }
     {
         self.bytes[1]
     }
 
     // How many instructions a processor's thread has: at most 16.
     pub fn thread_len(&self, processor: u8) -> u8
-        ensures { λ r. ⌜ r ≡ length (program (now (now (self .entry) .bytes)) .thread processor) ⌝ }
+        ensures { λ r. ⌜ r ≡ length (programOf (now (self .entry)) .thread processor) ⌝ }
     {
         if processor >= self.bytes[0] {
             return 0;
@@ -35,7 +33,7 @@ impl Card<'_> {
 
     // An instruction of a processor's thread, or none past its end.
     pub fn instr(&self, processor: u8, place: u8) -> Option<Instr>
-        ensures { λ r. ⌜ r ≡ nth (program (now (now (self .entry) .bytes)) .thread processor) place ⌝ }
+        ensures { λ r. ⌜ r ≡ nth (programOf (now (self .entry)) .thread processor) place ⌝ }
     {
         if place >= self.thread_len(processor) {
             return None;

@@ -1,7 +1,7 @@
 use mathlib.Core.Path.{ap}
 use Rattle.std.specs.declared.result.Result.the-variants.{Ok, Err}
 use Rattle.formats.specs.Checks.{verdict}
-use Rattle.formats.proofs.Acceptance.{card-accepts}
+use Rattle.formats.proofs.CardAcceptance.{card-accepts}
 use Rattle.formats.proofs.card.Card.check.Needs as need
 
 pub returns-in-Some : need.returns-in-Some

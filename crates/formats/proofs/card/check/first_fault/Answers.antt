@@ -1,6 +1,6 @@
 use mathlib.Core.Path.{sym}
 use native.Mathlib.Omega.{arith}
-use Rattle.formats.proofs.Acceptance.{header-keeps, threads-keep}
+use Rattle.formats.proofs.CardAcceptance.{header-keeps, threads-keep}
 use Rattle.formats.proofs.card.check.first_fault.Needs as need
 
 pub instrs-fault-requires : need.instrs-fault-requires

@@ -5,7 +5,7 @@ use lib.Dec.{eqb}
 use lib.ListN.{length}
 use Rattle.std.proofs.shelf.Tests.{cond-true, eq-eqb}
 use Rattle.formats.specs.Instrs.{decoded}
-use Rattle.formats.proofs.Decoding.{decodes}
+use Rattle.formats.proofs.InstrDecoding.{decodes}
 use Rattle.formats.proofs.instr.Instr.decode.Needs as need
 
 pub returns : need.returns

@@ -14,12 +14,12 @@ use Rattle.std.proofs.shelf.Tests.{and-from, and-parts, false≢true, le-leb, l
 use Rattle.model.specs.declared.fault.Fault.{Fault}
 use Rattle.formats.specs.CardRules.{CardRules, HeaderIsWhole, IsInstruction, OneToEightAddresses, OneToFourProcessors, TargetInThread, ThreadFits}
 use Rattle.formats.specs.Cards.{addressesIn, cardFault, countAt, fitsThread, headerFault, headerLength, instrBytes, instrFault, instrsFault, offsetAt, processorsIn, staysIn, threadFault}
-use Rattle.formats.specs.Checks.{AcceptsExactly, check, first, firstOf, verdict}
+use Rattle.formats.specs.Checks.{AcceptsExactly, firstOf, verdict}
 use Rattle.formats.specs.Instrs.{StandsFor, decoded}
 use Rattle.formats.specs.declared.instr.Instr.{Instr}
 use Rattle.formats.specs.declared.instr.Instr.the-variants.{Set, Add, Sub, Branch, Load, Store, Commit, Reconcile}
-use Rattle.formats.proofs.Decoding.{decodes}
-use Rattle.formats.proofs.Firsts.{all-none, check-from, check-parts, each-none, first-from, first-parts}
+use Rattle.formats.proofs.InstrDecoding.{decodes}
+use Rattle.formats.proofs.Firsts.{accepts, all-none, check-from, check-parts, each-none, first-from, first-parts}
 
 range : (low high n : ℕ) → leb low n && leb n high ≡ true → (low ≤ n) × (n ≤ high)
 range low high n e =
@@ -130,13 +130,6 @@ keeps-faultless bs r =
     (first-from (firstOf (threadFault bs) 0 (processorsIn bs)) _
     (all-none (threadFault bs) (processorsIn bs) (λ p l. keeps-thread bs p (record { header = r .header .1; count = r .counts p l; inside = r .offsets p l })))
     (all-none (instrsFault bs) (processorsIn bs) (λ p l. all-none (instrFault bs p) (countAt bs p) (λ i m. keeps-instr bs p i (r .instructions p i l m)))))
-
-accepted : (o : Option Fault) → verdict o ≡ Ok tt → o ≡ None
-accepted None e = refl
-accepted (Some fault) e = let z : _≡_ {A = ℕ} 0 1 = cc in absurd (omega arith)
-
-pub accepts : {Rules : Type 0} (o : Option Fault) (r : Result (Unit {0}) Fault) → r ≡ verdict o → (o ≡ None → Rules) → (Rules → o ≡ None) → AcceptsExactly Rules r
-accepts o r e to from = record { sound = λ h. to (accepted o (sym e ∙ h)); complete = λ h. e ∙ ap verdict (from h) }
 
 pub card-accepts : (bs : List ℕ) (r : Result (Unit {0}) Fault) → r ≡ verdict (cardFault bs) → AcceptsExactly (CardRules bs) r
 card-accepts bs r e = accepts (cardFault bs) r e (faultless-keeps bs) (keeps-faultless bs)

@@ -15,19 +15,7 @@ use Rattle.formats.specs.Instrs.{StandsFor, RegistersExist, Decodes, decoded, 
 use Rattle.formats.specs.declared.fields.Field.the-variants.{D, S, C}
 use Rattle.formats.specs.declared.instr.Instr.{Instr}
 use Rattle.formats.specs.declared.instr.Instr.the-variants.{Set, Add, Sub, Branch, Load, Store, Commit, Reconcile}
-
-when-some : (b : Bool) (x i : Instr) → cond b (Some x) None ≡ Some i → (b ≡ true) × (x ≡ i)
-when-some true x i e = (refl, cc)
-when-some false x i e = let z : _≡_ {A = ℕ} 0 1 = cc in absurd (omega arith)
-
-none-some : (i : Instr) → None ≡ Some i → ⊥
-none-some i e = let z : _≡_ {A = ℕ} 0 1 = cc in omega arith
-
--- one kind of a chain of kinds
-of-one : (k n : ℕ) (x rest : Option Instr) (i : Instr) → cond (eqb k n) x rest ≡ Some i → ((k ≡ n) × (x ≡ Some i)) ⊎ (rest ≡ Some i)
-of-one k n x rest i e =
-    ⊎-elim (λ t. inl (eqb-true k n t, sym (cond-true (eqb k n) x rest t) ∙ e)) (λ f. inr (sym (cond-false (eqb k n) x rest f) ∙ e))
-    (cases-bool (eqb k n))
+use Rattle.formats.proofs.Choosing.{cond-some, none-some, some-cond}
 
 abbrev four : ℕ → ℕ → ℕ → ℕ → List ℕ
 four k d s c = k ∷ d ∷ s ∷ c ∷ []
@@ -43,13 +31,13 @@ module _ (d s c : ℕ) (i : Instr) where
   -- a kind whose field s is 0
   two-fields : (k : ℕ) (x : Instr) → layout x ≡ four k d 0 c → (d < 8 → RegistersExist x) → (unusedClear k d s c ≡ true → s ≡ 0) → cond (isRegister d) (Some x) None ≡ Some i → Stands k
   two-fields k x l r clear e u =
-      let w = when-some (isRegister d) x i e in
+      let w = cond-some (isRegister d) x i e in
       subst (StandsFor (four k d s c)) (w .1) (record { written = ap (λ y. four k d y c) (clear u) ∙ sym l; registers = r (fits d (w .0)) })
 
   -- a kind that uses every field, and of which a test says that its registers exist
   all-fields : (k : ℕ) (x : Instr) (test : Bool) → layout x ≡ four k d s c → (test ≡ true → RegistersExist x) → cond test (Some x) None ≡ Some i → Stands k
   all-fields k x test l r e u =
-      let w = when-some test x i e in
+      let w = cond-some test x i e in
       subst (StandsFor (four k d s c)) (w .1) (record { written = sym l; registers = r (w .0) })
 
   -- a fence
@@ -91,8 +79,8 @@ module _ (d s c : ℕ) (i : Instr) where
       ⊎-elim (λ h. at k 5 (all-fields 5 (Store d s c) (isRegister d && isRegister s) refl both (h .1)) (h .0)) (λ e.
       ⊎-elim (λ h. at k 6 (no-fields 6 Commit refl tt clear-all (h .1)) (h .0)) (λ e.
       ⊎-elim (λ h. at k 7 (no-fields 7 Reconcile refl tt clear-all (h .1)) (h .0)) (λ e. absurd (none-some i e))
-      (of-one k 7 _ _ i e)) (of-one k 6 _ _ i e)) (of-one k 5 _ _ i e)) (of-one k 4 _ _ i e))
-      (of-one k 3 _ _ i e)) (of-one k 2 _ _ i e)) (of-one k 1 _ _ i e)) (of-one k 0 _ _ i e)
+      (some-cond k 7 _ _ i e)) (some-cond k 6 _ _ i e)) (some-cond k 5 _ _ i e)) (some-cond k 4 _ _ i e))
+      (some-cond k 3 _ _ i e)) (some-cond k 2 _ _ i e)) (some-cond k 1 _ _ i e)) (some-cond k 0 _ _ i e)
 
   of-fields-stands : (k : ℕ) → ofFields k d s c ≡ Some i → StandsFor (four k d s c) i
   of-fields-stands k e =

@@ -1,0 +1,5 @@
+use Rattle.formats.proofs.Schedules.{moves-length}
+use Rattle.formats.proofs.sheet.Sheet.len.Needs as need
+
+pub returns : need.returns
+returns c = let sheet = c .args .self .now in moves-length (sheet .bytes .now) (sheet .ok)
