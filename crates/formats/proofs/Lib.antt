@@ -2,6 +2,7 @@ mod CardAcceptance
 mod Choosing
 mod Firsts
 mod InstrDecoding
+mod Listings
 mod MoveDecoding
 mod Records
 mod Schedules

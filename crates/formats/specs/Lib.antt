@@ -4,6 +4,7 @@ pub mod Cards
 pub mod Checks
 pub mod Fields
 pub mod Instrs
+pub mod Listings
 pub mod Moves
 pub mod Programs
 pub mod Records

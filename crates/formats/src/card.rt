@@ -6,6 +6,9 @@ ghost use Rattle.formats.specs.Cards.{cardFault};
 
 mod check;
 mod read;
+mod show;
+
+pub use show::CardDisplay;
 
 // A litmus program, read from the caller's bytes. No card exists over bytes that break a rule.
 #[derive(Clone, Copy)]

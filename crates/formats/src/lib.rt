@@ -8,6 +8,7 @@ mod sheet;
 
 pub use addressing::address;
 pub use card::Card;
+pub use card::CardDisplay;
 pub use instr::Instr;
 pub use instr::InstrDebug;
 pub use instr::InstrDisplay;
@@ -17,3 +18,4 @@ pub use moves::MoveDebug;
 pub use moves::MoveDisplay;
 pub use moves::MovePartialEq;
 pub use sheet::Sheet;
+pub use sheet::SheetDisplay;

@@ -6,6 +6,9 @@ ghost use Rattle.formats.specs.Sheets.{sheetFault};
 
 mod check;
 mod read;
+mod show;
+
+pub use show::SheetDisplay;
 
 // A kind of machine and moves to make on it, read from the caller's bytes. No sheet exists over
 // bytes that break a rule.
