@@ -7,10 +7,11 @@ use Rattle.std.specs.Options.{isSome}
 use Rattle.std.specs.declared.option.Option.{Option}
 use Rattle.std.specs.declared.option.Option.the-variants.{Some, None}
 use Rattle.std.specs.declared.result.Result.{Result}
-use Rattle.std.specs.declared.result.Result.the-variants.{Ok, Err}
+use Rattle.std.specs.declared.result.Result.the-variants.{Ok}
 use Rattle.std.proofs.shelf.Tests.{true≢false}
 use Rattle.model.specs.declared.fault.Fault.{Fault}
 use Rattle.formats.specs.Checks.{AcceptsExactly, check, first, firstOf, verdict}
+use Rattle.formats.proofs.Verdicts.{accepted}
 
 none-some : (fault : Fault) → Some fault ≡ None → ⊥
 none-some fault e = let z : _≡_ {A = ℕ} 0 1 = cc in omega arith
@@ -71,9 +72,5 @@ pub no-fault : {T : Type 0} (o : Option T) → isSome o ≡ false → o ≡ None
 no-fault None e = refl
 no-fault (Some x) e = absurd (true≢false e)
 
-accepted : (o : Option Fault) → verdict o ≡ Ok tt → o ≡ None
-accepted None e = refl
-accepted (Some fault) e = let z : _≡_ {A = ℕ} 0 1 = cc in absurd (omega arith)
-
 pub accepts : {Rules : Type 0} (o : Option Fault) (r : Result (Unit {0}) Fault) → r ≡ verdict o → (o ≡ None → Rules) → (Rules → o ≡ None) → AcceptsExactly Rules r
-accepts o r e to from = record { sound = λ h. to (accepted o (sym e ∙ h)); complete = λ h. e ∙ ap verdict (from h) }
+accepts o r e to from = record { sound = λ h. to (accepted o (sym h ∙ e)); complete = λ h. e ∙ ap verdict (from h) }

@@ -8,3 +8,4 @@ mod Records
 mod Schedules
 mod SheetAcceptance
 mod Threads
+pub mod Verdicts

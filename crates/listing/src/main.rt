@@ -1,0 +1,29 @@
+// Lists the litmus program in the file `card` and the moves in the file `sheet`.
+mod report;
+
+use files::read_at_most;
+use report::report;
+use std::error::AnyError;
+
+// How much of each file is read.
+const LIMIT: usize = 1024;
+
+fn main(rt: LibcRuntime) -> Result<(), AnyError> {
+    rt.report(run(&rt))
+}
+
+fn run(rt: &LibcRuntime) -> Result<(), AnyError> {
+    let card = load(rt, "card")?;
+    let sheet = load(rt, "sheet")?;
+    let text = report(rt.alloc(), card.as_slice(), sheet.as_slice())?;
+    print!(rt, "{text}")?;
+    Ok(())
+}
+
+// A file's bytes, or an error that names the file.
+fn load(rt: &LibcRuntime, path: &str) -> Result<Vec<u8>, AnyError> {
+    match read_at_most(rt, path, LIMIT) {
+        Ok(bytes) => Ok(bytes),
+        Err(e) => Err(format!(rt.alloc(), "{path}: {e}")?.into()),
+    }
+}
