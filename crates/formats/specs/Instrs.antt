@@ -71,12 +71,20 @@ ofFields kind d s c = cond (unusedClear kind d s c) (ofKind kind d s c) None
 abbrev pub decoded : List ℕ → Option Instr
 decoded bs = cond (eqb (length bs) 4) (ofFields (getD bs 0 0) (getD bs 1 0) (getD bs 2 0) (getD bs 3 0)) None
 
+-- a name and three registers
+abbrev pub sumText : List ℕ → ℕ → ℕ → ℕ → List ℕ
+sumText name d s c = text (name ∷ codes " r" ∷ decimal d ∷ codes " r" ∷ decimal s ∷ codes " r" ∷ decimal c ∷ [])
+
+-- a name, a register, and an address as a register plus a number
+abbrev pub accessText : List ℕ → ℕ → ℕ → ℕ → List ℕ
+accessText name d s c = text (name ∷ codes " r" ∷ decimal d ∷ codes " [r" ∷ decimal s ∷ codes "+" ∷ decimal c ∷ codes "]" ∷ [])
+
 abbrev pub instrText : Instr → List ℕ
 instrText (Set d c) = text (codes "set r" ∷ decimal d ∷ codes " " ∷ decimal c ∷ [])
-instrText (Add d s c) = text (codes "add r" ∷ decimal d ∷ codes " r" ∷ decimal s ∷ codes " r" ∷ decimal c ∷ [])
-instrText (Sub d s c) = text (codes "sub r" ∷ decimal d ∷ codes " r" ∷ decimal s ∷ codes " r" ∷ decimal c ∷ [])
+instrText (Add d s c) = sumText (codes "add") d s c
+instrText (Sub d s c) = sumText (codes "sub") d s c
 instrText (Branch d c) = text (codes "branch r" ∷ decimal d ∷ codes " skip " ∷ decimal c ∷ [])
-instrText (Load d s c) = text (codes "load r" ∷ decimal d ∷ codes " [r" ∷ decimal s ∷ codes "+" ∷ decimal c ∷ codes "]" ∷ [])
-instrText (Store d s c) = text (codes "store r" ∷ decimal d ∷ codes " [r" ∷ decimal s ∷ codes "+" ∷ decimal c ∷ codes "]" ∷ [])
+instrText (Load d s c) = accessText (codes "load") d s c
+instrText (Store d s c) = accessText (codes "store") d s c
 instrText Commit = codes "commit"
 instrText Reconcile = codes "reconcile"

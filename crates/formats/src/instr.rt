@@ -1,7 +1,8 @@
 // Instructions and their four bytes.
 ghost use mathlib.Core.Path.{_≡_};
+ghost use Rattle.std.specs.Written.{Shows};
 ghost use Rattle.std.specs.declared.option.Option.the-variants.{Some};
-ghost use Rattle.formats.specs.Instrs.{Decodes, decoded, instrText, ofFields};
+ghost use Rattle.formats.specs.Instrs.{Decodes, accessText, decoded, instrText, ofFields, ofKind, sumText};
 use crate::fields::unused_are_zero;
 use std::fmt;
 
@@ -64,12 +65,20 @@ impl Instr {
     }
 }
 
+// The instruction of four fields, if those that its kind does not use are 0.
 fn of_fields(kind: u8, d: u8, s: u8, c: u8) -> Option<Instr>
     ensures { λ r. ⌜ r ≡ ofFields kind d s c ⌝ }
 {
     if !unused_are_zero(kind, d, s, c) {
         return None;
     }
+    of_kind(kind, d, s, c)
+}
+
+// The instruction of a kind, if the registers that it names exist.
+fn of_kind(kind: u8, d: u8, s: u8, c: u8) -> Option<Instr>
+    ensures { λ r. ⌜ r ≡ ofKind kind d s c ⌝ }
+{
     match kind {
         0 if d < REGISTERS => Some(Instr::Set {
             target: d,
@@ -115,25 +124,51 @@ pub impl fmt::Display for Instr as InstrDisplay {
                 target,
                 left,
                 right,
-            } => write!(f, "add r{target} r{left} r{right}"),
+            } => write_sum(f, "add", target, left, right),
             Instr::Sub {
                 target,
                 left,
                 right,
-            } => write!(f, "sub r{target} r{left} r{right}"),
+            } => write_sum(f, "sub", target, left, right),
             Instr::Branch { register, skip } => write!(f, "branch r{register} skip {skip}"),
             Instr::Load {
                 target,
                 base,
                 displacement,
-            } => write!(f, "load r{target} [r{base}+{displacement}]"),
+            } => write_access(f, "load", target, base, displacement),
             Instr::Store {
                 source,
                 base,
                 displacement,
-            } => write!(f, "store r{source} [r{base}+{displacement}]"),
+            } => write_access(f, "store", source, base, displacement),
             Instr::Commit => write!(f, "commit"),
             Instr::Reconcile => write!(f, "reconcile"),
         }
     }
+}
+
+// An instruction over three registers.
+fn write_sum<W: fmt::Write>(
+    f: &mut fmt::Formatter<W>,
+    name: &str,
+    d: u8,
+    s: u8,
+    c: u8,
+) -> fmt::Result
+    ensures { λ r. ⌜ Shows (W·Write .took) (now (f .entry)) r (Some (sumText (now (name .entry)) d s c)) (now (f .exit)) ⌝ }
+{
+    write!(f, "{name} r{d} r{s} r{c}")
+}
+
+// An instruction that reaches memory, with its address.
+fn write_access<W: fmt::Write>(
+    f: &mut fmt::Formatter<W>,
+    name: &str,
+    d: u8,
+    s: u8,
+    c: u8,
+) -> fmt::Result
+    ensures { λ r. ⌜ Shows (W·Write .took) (now (f .entry)) r (Some (accessText (now (name .entry)) d s c)) (now (f .exit)) ⌝ }
+{
+    write!(f, "{name} r{d} [r{s}+{c}]")
 }
