@@ -27,3 +27,26 @@ pub fn read_at_most<R: Files + Alloc>(rt: &R, path: &str, limit: usize) -> io::R
     bytes.truncate(limit);
     Ok(bytes)
 }
+
+#[cfg(test)]
+mod tests {
+    use super::read_at_most;
+    use std::test::*;
+
+    #[test]
+    fn reads_no_more_than_asked(rt: LibcRuntime) -> Result<(), Fail> {
+        check_eq(read_at_most(&rt, "/dev/zero", 16)?.len(), 16)?;
+        check_eq(read_at_most(&rt, "/dev/zero", 0)?.len(), 0)
+    }
+
+    #[test]
+    fn a_missing_file_is_empty(rt: LibcRuntime) -> Result<(), Fail> {
+        check_eq(read_at_most(&rt, "/no/such/file", 16)?.len(), 0)
+    }
+
+    // A folder is there, and cannot be read as a file.
+    #[test]
+    fn what_cannot_be_read_is_an_error(rt: LibcRuntime) -> Result<(), Fail> {
+        check(read_at_most(&rt, "/", 16).is_err())
+    }
+}

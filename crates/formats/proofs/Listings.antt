@@ -13,7 +13,8 @@ use Rattle.std.proofs.Writes.{put-more, put-is, wrote-none}
 use Rattle.std.proofs.shelf.Lists.{append-assoc, append-nil, take-all}
 use Rattle.std.proofs.shelf.Maps.{nth-getD}
 use Rattle.model.specs.Text.{text}
-use Rattle.formats.specs.Listings.{numbered}
+use Rattle.formats.specs.Listings.{numbered, threadText, threadsText}
+use Rattle.formats.specs.Programs.{Program}
 use Rattle.formats.proofs.Choosing.{none-some}
 
 module _ {T : Type 0} (show : T → List ℕ) where
@@ -57,3 +58,6 @@ module _ {T : Type 0} (show : T → List ℕ) where
 
     pub lines-written : (xs : List T) (n : ℕ) (g : Formatter W) → length xs ≤ n → Put took f (numbered show 0 (take n xs)) g → Put took f (numbered show 0 xs) g
     lines-written xs n g h = put-is took f (numbered show 0 (take n xs)) (numbered show 0 xs) g (numbered-all xs n h)
+
+pub threads-more : (prog : Program) (n : ℕ) → threadsText prog n ++ threadText prog n ≡ threadsText prog (n + 1)
+threads-more prog n = let z : suc n ≡ n + 1 = omega arith in ap (threadsText prog) z

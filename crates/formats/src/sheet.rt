@@ -5,6 +5,7 @@ ghost use Rattle.std.specs.Options.{isSome};
 ghost use Rattle.formats.specs.Sheets.{sheetFault};
 
 mod check;
+mod parts;
 mod read;
 mod show;
 

@@ -8,9 +8,15 @@ use Rattle.model.specs.Faults.{faultText}
 use Rattle.model.specs.declared.fault.Fault.{Fault}
 use Rattle.formats.specs.Cards.{cardFault}
 use Rattle.formats.specs.Listings.{programText, scheduleText}
-use Rattle.formats.specs.Programs.{program}
-use Rattle.formats.specs.Schedules.{schedule}
+use Rattle.formats.specs.Programs.{program, programOf}
+use Rattle.formats.specs.Schedules.{schedule, scheduleOf}
 use Rattle.formats.specs.Sheets.{sheetFault}
+use Rattle.formats.specs.declared.card.Card.{Card}
+use Rattle.formats.specs.declared.sheet.Sheet.{Sheet}
+
+-- the program of a card and the moves of a sheet
+abbrev pub listedText : Card → Sheet → List ℕ
+listedText card sheet = programText (programOf card) ++ scheduleText (scheduleOf sheet)
 
 -- the line of a fault, or else a text
 abbrev pub orFault : Option Fault → List ℕ → List ℕ

@@ -9,7 +9,13 @@ use std::error::AnyError;
 const LIMIT: usize = 1024;
 
 fn main(rt: LibcRuntime) -> Result<(), AnyError> {
-    rt.report(run(&rt))
+    match run(&rt) {
+        Ok(()) => Ok(()),
+        Err(e) => {
+            eprintln!(rt, "listing: {e}")?;
+            Err(e)
+        }
+    }
 }
 
 fn run(rt: &LibcRuntime) -> Result<(), AnyError> {

@@ -8,6 +8,9 @@ ghost use Rattle.formats.specs.Cards.{cardFault, cardRefusal, countAt, fitsThr
 ghost use Rattle.formats.specs.Checks.{AcceptsExactly, firstOf, verdict};
 ghost use Rattle.formats.specs.Instrs.{decoded};
 use crate::card::Card;
+use crate::card::parts::count_at;
+use crate::card::parts::instr_byte;
+use crate::card::parts::offset_at;
 use crate::instr::Instr;
 use model::Fault;
 use model::Layer;
@@ -49,13 +52,12 @@ fn thread_fault(bytes: &[u8], processor: usize) -> Option<Fault>
     requires { ⌜ headerLength (now bytes) ≤ length (now bytes) ⌝ ∗ ⌜ processor < processorsIn (now bytes) ⌝ }
     ensures { λ r. ⌜ r ≡ threadFault (now (bytes .entry)) processor ⌝ }
 {
-    let at = 2 + 2 * processor;
-    let count = bytes[at] as usize;
+    let count = count_at(bytes, processor) as usize;
     if count > 16 {
-        return Some(refusal(Refusal::Count, at));
+        return Some(refusal(Refusal::Count, 2 + 2 * processor));
     }
     let header = 2 + 2 * bytes[0] as usize;
-    let offset = bytes[at + 1] as usize;
+    let offset = offset_at(bytes, processor);
     if offset < header {
         return Some(refusal(Refusal::Cut, bytes.len()));
     }
@@ -95,8 +97,8 @@ fn instr_fault(bytes: &[u8], processor: usize, index: usize) -> Option<Fault>
     requires { ⌜ processor < processorsIn (now bytes) ⌝ ∗ ⌜ index < countAt (now bytes) processor ⌝ ∗ ⌜ ThreadFits (now bytes) processor ⌝ }
     ensures { λ r. ⌜ r ≡ instrFault (now (bytes .entry)) processor index ⌝ }
 {
-    let count = bytes[2 + 2 * processor] as usize;
-    let at = bytes[3 + 2 * processor] as usize + 4 * index;
+    let count = count_at(bytes, processor) as usize;
+    let at = instr_byte(bytes, processor, index);
     if is_instruction(&bytes[at..at + 4], index, count) {
         return None;
     }
@@ -108,7 +110,7 @@ fn thread_instrs_fault(bytes: &[u8], processor: usize) -> Option<Fault>
     requires { ⌜ processor < processorsIn (now bytes) ⌝ ∗ ⌜ ThreadFits (now bytes) processor ⌝ }
     ensures { λ r. ⌜ r ≡ instrsFault (now (bytes .entry)) processor ⌝ }
 {
-    for index in 0..bytes[2 + 2 * processor] as usize {
+    for index in 0..count_at(bytes, processor) as usize {
         if let Some(fault) = instr_fault(bytes, processor, index) {
             return Some(fault);
         }

@@ -4,6 +4,8 @@ ghost use lib.ListN.{length};
 ghost use Rattle.std.specs.shelf.Maps.{nth};
 ghost use Rattle.formats.specs.Programs.{programOf};
 use crate::card::Card;
+use crate::card::parts::count_at;
+use crate::card::parts::instr_byte;
 use crate::instr::Instr;
 
 impl Card<'_> {
@@ -28,7 +30,7 @@ impl Card<'_> {
         if processor >= self.bytes[0] {
             return 0;
         }
-        self.bytes[2 + 2 * processor as usize]
+        count_at(self.bytes, processor as usize)
     }
 
     // An instruction of a processor's thread, or none past its end.
@@ -38,7 +40,7 @@ impl Card<'_> {
         if place >= self.thread_len(processor) {
             return None;
         }
-        let at = self.bytes[3 + 2 * processor as usize] as usize + 4 * place as usize;
+        let at = instr_byte(self.bytes, processor as usize, place as usize);
         Instr::decode(&self.bytes[at..at + 4])
     }
 }

@@ -1,9 +1,8 @@
 // A card in plain text.
-ghost use Prim.Native.Nat.{_<_};
 ghost use Rattle.std.specs.Written.{Shows};
 ghost use Rattle.std.specs.declared.option.Option.the-variants.{Some};
 ghost use Rattle.formats.specs.Instrs.{instrText};
-ghost use Rattle.formats.specs.Listings.{numbered, programText, threadText, threadsText};
+ghost use Rattle.formats.specs.Listings.{numbered, programText, programTitle, threadText, threadsText};
 ghost use Rattle.formats.specs.Programs.{programOf};
 use crate::card::Card;
 use crate::instr::InstrDisplay;
@@ -13,11 +12,19 @@ pub impl fmt::Display for Card<'_> as CardDisplay {
     ghost shown = { λ card. Some (programText (programOf card)) };
 
     fn fmt<W: fmt::Write>(&self, f: &mut fmt::Formatter<W>) -> fmt::Result {
-        let processors = self.processors();
-        let addresses = self.addresses();
-        writeln!(f, "processors {processors} addresses {addresses}")?;
+        write_title(f, self.processors(), self.addresses())?;
         write_threads(self, f)
     }
+}
+
+fn write_title<W: fmt::Write>(
+    f: &mut fmt::Formatter<W>,
+    processors: u8,
+    addresses: u8,
+) -> fmt::Result
+    ensures { λ r. ⌜ Shows (W·Write .took) (now (f .entry)) r (Some (programTitle processors addresses)) (now (f .exit)) ⌝ }
+{
+    writeln!(f, "processors {processors} addresses {addresses}")
 }
 
 // Every thread, one after the other.

@@ -8,6 +8,8 @@ ghost use Rattle.formats.specs.SheetRules.{SheetRules};
 ghost use Rattle.formats.specs.Sheets.{moveFault, movesIn, sheetFault, sheetRefusal, startFault};
 use crate::moves::Move;
 use crate::sheet::Sheet;
+use crate::sheet::parts::count_in;
+use crate::sheet::parts::move_byte;
 use model::Fault;
 use model::Kind;
 use model::Layer;
@@ -33,7 +35,7 @@ fn start_fault(bytes: &[u8]) -> Option<Fault>
     if Kind::numbered(bytes[0]).is_none() {
         return Some(refusal(Refusal::Count, 0));
     }
-    if bytes.len() < 2 + 3 * bytes[1] as usize {
+    if bytes.len() < 2 + 3 * count_in(bytes) as usize {
         return Some(refusal(Refusal::Cut, bytes.len()));
     }
     None
@@ -44,7 +46,7 @@ fn move_fault(bytes: &[u8], index: usize) -> Option<Fault>
     requires { ⌜ 2 + 3 * movesIn (now bytes) ≤ length (now bytes) ⌝ ∗ ⌜ index < movesIn (now bytes) ⌝ }
     ensures { λ r. ⌜ r ≡ moveFault (now (bytes .entry)) index ⌝ }
 {
-    let at = 2 + 3 * index;
+    let at = move_byte(index);
     if Move::decode(&bytes[at..at + 3]).is_none() {
         return Some(refusal(Refusal::Malformed, at));
     }
@@ -56,7 +58,7 @@ fn moves_fault(bytes: &[u8]) -> Option<Fault>
     requires { ⌜ 2 + 3 * movesIn (now bytes) ≤ length (now bytes) ⌝ }
     ensures { λ r. ⌜ r ≡ firstOf (moveFault (now (bytes .entry))) 0 (movesIn (now (bytes .entry))) ⌝ }
 {
-    for index in 0..bytes[1] as usize {
+    for index in 0..count_in(bytes) as usize {
         if let Some(fault) = move_fault(bytes, index) {
             return Some(fault);
         }

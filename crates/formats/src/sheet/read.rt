@@ -5,6 +5,8 @@ ghost use Rattle.std.specs.shelf.Maps.{nth};
 ghost use Rattle.formats.specs.Schedules.{scheduleOf};
 use crate::moves::Move;
 use crate::sheet::Sheet;
+use crate::sheet::parts::count_in;
+use crate::sheet::parts::move_byte;
 use model::Kind;
 
 impl Sheet<'_> {
@@ -22,7 +24,7 @@ impl Sheet<'_> {
     pub fn len(&self) -> u8
         ensures { λ r. ⌜ r ≡ length (scheduleOf (now (self .entry)) .moves) ⌝ }
     {
-        self.bytes[1]
+        count_in(self.bytes)
     }
 
     // A move, or none past the last.
@@ -32,7 +34,7 @@ impl Sheet<'_> {
         if index >= self.len() {
             return None;
         }
-        let at = 2 + 3 * index as usize;
+        let at = move_byte(index as usize);
         Move::decode(&self.bytes[at..at + 3])
     }
 }

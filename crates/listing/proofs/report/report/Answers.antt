@@ -29,6 +29,6 @@ returns c =
     let sheet = c .args .sheet .now in
     let a = accepted (cardFault card) (c .in-rest .ensures tt .value) in
     let b = accepted (sheetFault sheet) (c .in-rest-check .ensures tt .value) in
-    subst (λ t. made (c .format-2 .result) (λ s. string-bytes s ≡ t))
-    (both-listed card sheet (c .new-card .result .bytes .now) (c .new-sheet .result .bytes .now) a b (c .new-card .ensures) (c .new-sheet .ensures))
-    (c .format-2 .ensures .made)
+    subst (λ t. made (c .listed .result) (λ s. string-bytes s ≡ t))
+    (both-listed card sheet (c .new .result .bytes .now) (c .new-2 .result .bytes .now) a b (c .new .ensures) (c .new-2 .ensures))
+    (c .listed .ensures)

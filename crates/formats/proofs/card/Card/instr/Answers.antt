@@ -1,10 +1,12 @@
-use mathlib.Core.Path.{_≡_, sym, subst, _∙_}
+use mathlib.Core.Path.{_≡_, ap, sym, _∙_}
 use Prim.Native.Nat.{_+_, _*_, _<_, _≤_}
 use native.Mathlib.Omega.{arith}
 use borrow.Author.Needs.{needs}
 use lib.ListN.{length}
+use Rattle.std.specs.Holes.{between}
 use Rattle.std.proofs.shelf.Maps.{nth-past}
 use Rattle.formats.specs.Cards.{offsetAt}
+use Rattle.formats.specs.Instrs.{decoded}
 use Rattle.formats.specs.Programs.{program}
 use Rattle.formats.proofs.Threads.{thread-has, thread-nth}
 use Rattle.formats.proofs.card.Card.instr.Needs as need
@@ -29,4 +31,6 @@ returns c =
     let bs = card .bytes .now in
     let inside : c .args .place < length (program bs .thread (c .args .processor)) = omega (arith, c .thread-len .ensures) in
     let has = thread-has bs (card .ok) (c .args .processor) (c .args .place) inside in
-    c .decode .ensures .value ∙ thread-nth bs (card .ok) (c .args .processor) (has .0) (c .args .place) (has .1)
+    c .decode .ensures .value
+    ∙ (ap (λ byte. decoded (between byte (byte + 4) bs)) (c .instr-byte-at .ensures .value)
+    ∙ thread-nth bs (card .ok) (c .args .processor) (has .0) (c .args .place) (has .1))

@@ -1,3 +1,4 @@
+use mathlib.Core.Path.{_∙_}
 use native.Mathlib.Omega.{arith}
 use Rattle.formats.proofs.Threads.{thread-length}
 use Rattle.formats.proofs.card.Card.thread_len.Needs as need
@@ -5,4 +6,4 @@ use Rattle.formats.proofs.card.Card.thread_len.Needs as need
 pub returns : need.returns
 returns c =
     let card = c .args .self .now in
-    thread-length (card .bytes .now) (card .ok) (c .args .processor) (omega arith)
+    c .count-at .ensures ∙ thread-length (card .bytes .now) (card .ok) (c .args .processor) (omega arith)

@@ -1,9 +1,11 @@
-use mathlib.Core.Path.{sym, _∙_}
+use mathlib.Core.Path.{ap, sym, _∙_}
 use Prim.Native.Nat.{_+_, _*_, _≤_}
 use native.Mathlib.Omega.{arith}
 use borrow.Author.Needs.{needs}
 use lib.ListN.{length}
+use Rattle.std.specs.Holes.{between}
 use Rattle.std.proofs.shelf.Maps.{nth-past}
+use Rattle.formats.specs.Moves.{moveDecoded}
 use Rattle.formats.specs.Schedules.{schedule}
 use Rattle.formats.specs.Sheets.{movesIn}
 use Rattle.formats.proofs.Schedules.{moves-length, moves-nth, rules}
@@ -28,4 +30,6 @@ returns c =
     let sheet = c .args .self .now in
     let bs = sheet .bytes .now in
     let long = moves-length bs (sheet .ok) in
-    c .decode .ensures .value ∙ moves-nth bs (sheet .ok) (c .args .index) (omega (arith, c .len .ensures))
+    c .decode .ensures .value
+    ∙ (ap (λ byte. moveDecoded (between byte (byte + 3) bs)) (c .move-byte-at .ensures)
+    ∙ moves-nth bs (sheet .ok) (c .args .index) (omega (arith, c .len .ensures)))

@@ -10,9 +10,9 @@ returns g c plain ok =
     let prog = programOf (c .args .self .now) in
     let took = g .W·Write .took in
     let f = c .args .f .now in
-    let same = ap (λ p. programTitle p (c .addresses-addresses .result)) (c .processors-processors .ensures) ∙ ap (programTitle (prog .processors)) (c .addresses-addresses .ensures) in
+    let same = ap (λ p. programTitle p (c .addresses .result)) (c .processors .ensures) ∙ ap (programTitle (prog .processors)) (c .addresses .ensures) in
     let title =
-    put-is took f (programTitle (c .processors-processors .result) (c .addresses-addresses .result)) (programTitle (prog .processors) (prog .addresses)) (c .writeln .last .self) same
-    (c .writeln .ensures .shows plain (ap isOk (c .in-Continue-writeln .was tt))) in
-    put-more took f (programTitle (prog .processors) (prog .addresses)) (c .writeln .last .self) (threadsText prog (prog .processors)) (c .write-threads .last .f)
+    put-is took f (programTitle (c .processors .result) (c .addresses .result)) (programTitle (prog .processors) (prog .addresses)) (c .write-title .last .f) same
+    (c .write-title .ensures plain (ap isOk (c .in-Continue-write-title .was tt))) in
+    put-more took f (programTitle (prog .processors) (prog .addresses)) (c .write-title .last .f) (threadsText prog (prog .processors)) (c .write-threads .last .f)
     title (c .write-threads .ensures (title .plain) ok)

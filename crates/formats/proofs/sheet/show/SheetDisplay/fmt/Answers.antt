@@ -12,9 +12,9 @@ returns g c plain ok =
     let plan = scheduleOf (c .args .self .now) in
     let took = g .W·Write .took in
     let f = c .args .f .now in
-    let same = ap (λ k. scheduleTitle k (c .len-len .result)) (c .kind-kind .ensures) ∙ ap (scheduleTitle (plan .kind)) (c .len-len .ensures) in
+    let same = ap (λ k. scheduleTitle k (c .len .result)) (c .kind .ensures) ∙ ap (scheduleTitle (plan .kind)) (c .len .ensures) in
     let title =
-    put-is took f (scheduleTitle (c .kind-kind .result) (c .len-len .result)) (scheduleTitle (plan .kind) (length (plan .moves))) (c .writeln .last .self) same
-    (c .writeln .ensures .shows plain (ap isOk (c .in-Continue-writeln .was tt))) in
-    put-more took f (scheduleTitle (plan .kind) (length (plan .moves))) (c .writeln .last .self) (numbered moveText 0 (plan .moves)) (c .write-moves .last .f)
+    put-is took f (scheduleTitle (c .kind .result) (c .len .result)) (scheduleTitle (plan .kind) (length (plan .moves))) (c .write-title .last .f) same
+    (c .write-title .ensures plain (ap isOk (c .in-Continue-write-title .was tt))) in
+    put-more took f (scheduleTitle (plan .kind) (length (plan .moves))) (c .write-title .last .f) (numbered moveText 0 (plan .moves)) (c .write-moves .last .f)
     title (c .write-moves .ensures (title .plain) ok)
