@@ -12,12 +12,11 @@ use Rattle.std.specs.declared.result.Result.{Result}
 use Rattle.std.specs.declared.result.Result.the-variants.{Ok, Err}
 use Rattle.std.proofs.shelf.Tests.{and-from, and-parts, false≢true, le-leb, leb-true}
 use Rattle.model.specs.declared.fault.Fault.{Fault}
-use Rattle.formats.specs.CardRules.{CardRules, HeaderIsWhole, IsInstruction, OneToEightAddresses, OneToFourProcessors, TargetInThread, ThreadFits}
-use Rattle.formats.specs.Cards.{addressesIn, cardFault, countAt, fitsThread, headerFault, headerLength, instrBytes, instrFault, instrsFault, offsetAt, processorsIn, staysIn, threadFault}
+use Rattle.formats.specs.CardRules.{CardRules, HeaderIsWhole, IsInstruction, OneToEightAddresses, OneToFourProcessors, ThreadFits}
+use Rattle.formats.specs.Cards.{addressesIn, cardFault, countAt, fitsThread, furthest, headerFault, headerLength, instrBytes, instrFault, instrsFault, offsetAt, processorsIn, threadFault}
 use Rattle.formats.specs.Checks.{AcceptsExactly, firstOf, verdict}
 use Rattle.formats.specs.Instrs.{StandsFor, decoded}
 use Rattle.formats.specs.declared.instr.Instr.{Instr}
-use Rattle.formats.specs.declared.instr.Instr.the-variants.{Set, Add, Sub, Branch, Load, Store, Commit, Reconcile}
 use Rattle.formats.proofs.InstrDecoding.{decodes}
 use Rattle.formats.proofs.Firsts.{accepts, all-none, check-from, check-parts, each-none, first-from, first-parts}
 
@@ -70,30 +69,10 @@ keeps-thread bs p h =
     (check-from (leb (headerLength bs) (offsetAt bs p)) _ _ (le-leb (headerLength bs) (offsetAt bs p) (h .inside .0))
     (check-from (leb (offsetAt bs p + 4 * countAt bs p) (length bs)) _ _ (le-leb (offsetAt bs p + 4 * countAt bs p) (length bs) (h .inside .1)) refl))
 
-stays : (n i : ℕ) (x : Instr) → staysIn n i x ≡ true → TargetInThread n i x
-stays n i (Branch d c) e = leb-true (i + 1 + c) n e
-stays n i (Set d c) e = tt
-stays n i (Add d s c) e = tt
-stays n i (Sub d s c) e = tt
-stays n i (Load d s c) e = tt
-stays n i (Store d s c) e = tt
-stays n i Commit e = tt
-stays n i Reconcile e = tt
-
-stay : (n i : ℕ) (x : Instr) → TargetInThread n i x → staysIn n i x ≡ true
-stay n i (Branch d c) h = le-leb (i + 1 + c) n h
-stay n i (Set d c) h = refl
-stay n i (Add d s c) h = refl
-stay n i (Sub d s c) h = refl
-stay n i (Load d s c) h = refl
-stay n i (Store d s c) h = refl
-stay n i Commit h = refl
-stay n i Reconcile h = refl
-
 instr-is : (bs : List ℕ) (p i : ℕ) (o : Option Instr) → o ≡ decoded (instrBytes bs p i) → fitsThread (countAt bs p) i o ≡ true → IsInstruction bs p i
 instr-is bs p i None d e = absurd (false≢true e)
 instr-is bs p i (Some x) d e =
-    record { instr = x; bytes = decodes (instrBytes bs p i) (Some x) d x .0 refl; target = stays (countAt bs p) i x e }
+    record { instr = x; bytes = decodes (instrBytes bs p i) (Some x) d x .0 refl; target = leb-true (furthest i x) (countAt bs p) e }
 
 instr-keeps : (bs : List ℕ) (p i : ℕ) → instrFault bs p i ≡ None → IsInstruction bs p i
 instr-keeps bs p i e =
@@ -104,7 +83,7 @@ keeps-instr : (bs : List ℕ) (p i : ℕ) → IsInstruction bs p i → instrFaul
 keeps-instr bs p i h =
     let d = decodes (instrBytes bs p i) (decoded (instrBytes bs p i)) refl (h .instr) .1 (h .bytes) in
     check-from (fitsThread (countAt bs p) i (decoded (instrBytes bs p i))) _ _
-    (ap (fitsThread (countAt bs p) i) d ∙ stay (countAt bs p) i (h .instr) (h .target)) refl
+    (ap (fitsThread (countAt bs p) i) d ∙ le-leb (furthest i (h .instr)) (countAt bs p) (h .target)) refl
 
 pub threads-keep : (bs : List ℕ) → headerLength bs ≤ length bs → firstOf (threadFault bs) 0 (processorsIn bs) ≡ None → (p : ℕ) → p < processorsIn bs → ThreadFits bs p
 threads-keep bs h e p l = thread-keeps bs p h (each-none (threadFault bs) (processorsIn bs) e p l)

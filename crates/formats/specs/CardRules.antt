@@ -2,10 +2,9 @@
 use mathlib.Core.List.{List}
 use Prim.Native.Nat.{ℕ, _+_, _*_, _<_, _≤_}
 use lib.ListN.{length}
-use Rattle.formats.specs.Cards.{processorsIn, addressesIn, headerLength, countAt, offsetAt, instrBytes}
+use Rattle.formats.specs.Cards.{processorsIn, addressesIn, furthest, headerLength, countAt, offsetAt, instrBytes}
 use Rattle.formats.specs.Instrs.{StandsFor}
 use Rattle.formats.specs.declared.instr.Instr.{Instr}
-use Rattle.formats.specs.declared.instr.Instr.the-variants.{Set, Add, Sub, Branch, Load, Store, Commit, Reconcile}
 
 abbrev pub OneToFourProcessors : List ℕ → Type 0
 OneToFourProcessors bs = (1 ≤ processorsIn bs) × (processorsIn bs ≤ 4)
@@ -29,22 +28,15 @@ pub record ThreadFits (bs : List ℕ) (p : ℕ) : Type 0 where
   pub count : AtMostSixteen bs p
   pub inside : LiesInside bs p
 
--- a branch at index i goes at most to the end of its thread of n instructions
-abbrev pub TargetInThread : ℕ → ℕ → Instr → Type 0
-TargetInThread n i (Branch register skip) = i + 1 + skip ≤ n
-TargetInThread n i (Set target value) = Unit {0}
-TargetInThread n i (Add target left right) = Unit {0}
-TargetInThread n i (Sub target left right) = Unit {0}
-TargetInThread n i (Load target base displacement) = Unit {0}
-TargetInThread n i (Store source base displacement) = Unit {0}
-TargetInThread n i Commit = Unit {0}
-TargetInThread n i Reconcile = Unit {0}
+-- a branch, and so any instruction, goes at most to the end of its thread
+abbrev pub StaysInThread : List ℕ → ℕ → ℕ → Instr → Type 0
+StaysInThread bs p i instr = furthest i instr ≤ countAt bs p
 
 -- the four bytes of instruction i of processor p stand for an instruction that stays in its thread
 pub record IsInstruction (bs : List ℕ) (p i : ℕ) : Type 0 where
   pub instr : Instr
   pub bytes : StandsFor (instrBytes bs p i) instr
-  pub target : TargetInThread (countAt bs p) i instr
+  pub target : StaysInThread bs p i instr
 
 pub record CardRules (bs : List ℕ) : Type 0 where
   pub header : HeaderIsWhole bs

@@ -1,5 +1,5 @@
 -- Cards: where the parts of one lie, and the first rule that bytes break.
-use mathlib.Core.Bool.{Bool, true, false, _&&_}
+use mathlib.Core.Bool.{Bool, false, _&&_}
 use mathlib.Core.List.{List}
 use Prim.Native.Nat.{ℕ, _+_, _*_}
 use lib.Dec.{leb}
@@ -40,20 +40,21 @@ instrByte bs p i = offsetAt bs p + 4 * i
 abbrev pub instrBytes : List ℕ → ℕ → ℕ → List ℕ
 instrBytes bs p i = between (instrByte bs p i) (instrByte bs p i + 4) bs
 
--- a branch goes at most to the end of its thread of n instructions
-abbrev pub staysIn : ℕ → ℕ → Instr → Bool
-staysIn n i (Branch register skip) = leb (i + 1 + skip) n
-staysIn n i (Set target value) = true
-staysIn n i (Add target left right) = true
-staysIn n i (Sub target left right) = true
-staysIn n i (Load target base displacement) = true
-staysIn n i (Store source base displacement) = true
-staysIn n i Commit = true
-staysIn n i Reconcile = true
+-- the furthest place in its thread that control goes to from an instruction at index i
+abbrev pub furthest : ℕ → Instr → ℕ
+furthest i (Branch register skip) = i + 1 + skip
+furthest i (Set target value) = i + 1
+furthest i (Add target left right) = i + 1
+furthest i (Sub target left right) = i + 1
+furthest i (Load target base displacement) = i + 1
+furthest i (Store source base displacement) = i + 1
+furthest i Commit = i + 1
+furthest i Reconcile = i + 1
 
+-- an instruction, from which control goes at most to the end of its thread of n
 abbrev pub fitsThread : ℕ → ℕ → Option Instr → Bool
 fitsThread n i None = false
-fitsThread n i (Some instr) = staysIn n i instr
+fitsThread n i (Some instr) = leb (furthest i instr) n
 
 abbrev pub cardRefusal : Refusal → ℕ → Fault
 cardRefusal refusal place = record { refusal = refusal; layer = Card; place = place }

@@ -12,13 +12,21 @@ pub enum Field {
 
 // A row for each kind of instruction, with a mark for d, s and c.
 const USED: [[bool; 3]; 8] = [
+    // Set
     [true, false, true],
+    // Add
     [true, true, true],
+    // Sub
     [true, true, true],
+    // Branch
     [true, false, true],
+    // Load
     [true, true, true],
+    // Store
     [true, true, true],
+    // Commit
     [false, false, false],
+    // Reconcile
     [false, false, false],
 ];
 

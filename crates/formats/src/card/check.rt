@@ -4,7 +4,7 @@ ghost use Prim.Native.Nat.{ℕ, _+_, _*_, _<_, _≤_};
 ghost use lib.ListN.{length};
 ghost use Rattle.std.specs.declared.result.Result.the-variants.{Ok};
 ghost use Rattle.formats.specs.CardRules.{CardRules, ThreadFits};
-ghost use Rattle.formats.specs.Cards.{cardFault, cardRefusal, countAt, fitsThread, headerFault, headerLength, instrFault, instrsFault, offsetAt, processorsIn, threadFault};
+ghost use Rattle.formats.specs.Cards.{cardFault, cardRefusal, countAt, fitsThread, furthest, headerFault, headerLength, instrFault, instrsFault, offsetAt, processorsIn, threadFault};
 ghost use Rattle.formats.specs.Checks.{AcceptsExactly, firstOf, verdict};
 ghost use Rattle.formats.specs.Instrs.{decoded};
 use crate::card::Card;
@@ -16,7 +16,7 @@ use model::Fault;
 use model::Layer;
 use model::Refusal;
 
-fn refusal(refusal: Refusal, place: usize) -> Fault
+fn refused(refusal: Refusal, place: usize) -> Fault
     ensures { λ r. ⌜ r ≡ cardRefusal refusal place ⌝ }
 {
     Fault {
@@ -31,18 +31,18 @@ fn header_fault(bytes: &[u8]) -> Option<Fault>
     ensures { λ r. ⌜ r ≡ headerFault (now (bytes .entry)) ⌝ }
 {
     if bytes.len() < 2 {
-        return Some(refusal(Refusal::Cut, bytes.len()));
+        return Some(refused(Refusal::Cut, bytes.len()));
     }
     let processors = bytes[0];
     if processors < 1 || processors > 4 {
-        return Some(refusal(Refusal::Count, 0));
+        return Some(refused(Refusal::Count, 0));
     }
     let addresses = bytes[1];
     if addresses < 1 || addresses > 8 {
-        return Some(refusal(Refusal::Count, 1));
+        return Some(refused(Refusal::Count, 1));
     }
     if bytes.len() < 2 + 2 * processors as usize {
-        return Some(refusal(Refusal::Cut, bytes.len()));
+        return Some(refused(Refusal::Cut, bytes.len()));
     }
     None
 }
@@ -54,15 +54,12 @@ fn thread_fault(bytes: &[u8], processor: usize) -> Option<Fault>
 {
     let count = count_at(bytes, processor) as usize;
     if count > 16 {
-        return Some(refusal(Refusal::Count, 2 + 2 * processor));
+        return Some(refused(Refusal::Count, 2 + 2 * processor));
     }
     let header = 2 + 2 * bytes[0] as usize;
     let offset = offset_at(bytes, processor);
-    if offset < header {
-        return Some(refusal(Refusal::Cut, bytes.len()));
-    }
-    if offset + 4 * count > bytes.len() {
-        return Some(refusal(Refusal::Cut, bytes.len()));
+    if offset < header || offset + 4 * count > bytes.len() {
+        return Some(refused(Refusal::Cut, bytes.len()));
     }
     None
 }
@@ -80,14 +77,24 @@ fn threads_fault(bytes: &[u8]) -> Option<Fault>
     None
 }
 
+// The furthest place that control goes to from an instruction.
+fn furthest_from(instr: Instr, index: usize) -> usize
+    requires { ⌜ index < 16 ⌝ }
+    ensures { λ r. ⌜ r ≡ furthest index instr ⌝ }
+{
+    match instr {
+        Instr::Branch { skip, .. } => index + 1 + skip as usize,
+        _other => index + 1,
+    }
+}
+
 // Whether four bytes are an instruction that stays in its thread.
 fn is_instruction(bytes: &[u8], index: usize, count: usize) -> bool
     requires { ⌜ index < 16 ⌝ }
     ensures { λ r. ⌜ r ≡ fitsThread count index (decoded (now (bytes .entry))) ⌝ }
 {
     match Instr::decode(bytes) {
-        Some(Instr::Branch { skip, .. }) => index + 1 + skip as usize <= count,
-        Some(_instr) => true,
+        Some(instr) => furthest_from(instr, index) <= count,
         None => false,
     }
 }
@@ -102,7 +109,7 @@ fn instr_fault(bytes: &[u8], processor: usize, index: usize) -> Option<Fault>
     if is_instruction(&bytes[at..at + 4], index, count) {
         return None;
     }
-    Some(refusal(Refusal::Malformed, at))
+    Some(refused(Refusal::Malformed, at))
 }
 
 // The first fault of a thread's instructions.

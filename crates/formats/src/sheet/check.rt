@@ -15,7 +15,7 @@ use model::Kind;
 use model::Layer;
 use model::Refusal;
 
-fn refusal(refusal: Refusal, place: usize) -> Fault
+fn refused(refusal: Refusal, place: usize) -> Fault
     ensures { λ r. ⌜ r ≡ sheetRefusal refusal place ⌝ }
 {
     Fault {
@@ -30,13 +30,13 @@ fn start_fault(bytes: &[u8]) -> Option<Fault>
     ensures { λ r. ⌜ r ≡ startFault (now (bytes .entry)) ⌝ }
 {
     if bytes.len() < 2 {
-        return Some(refusal(Refusal::Cut, bytes.len()));
+        return Some(refused(Refusal::Cut, bytes.len()));
     }
     if Kind::numbered(bytes[0]).is_none() {
-        return Some(refusal(Refusal::Count, 0));
+        return Some(refused(Refusal::Count, 0));
     }
     if bytes.len() < 2 + 3 * count_in(bytes) as usize {
-        return Some(refusal(Refusal::Cut, bytes.len()));
+        return Some(refused(Refusal::Cut, bytes.len()));
     }
     None
 }
@@ -48,7 +48,7 @@ fn move_fault(bytes: &[u8], index: usize) -> Option<Fault>
 {
     let at = move_byte(index);
     if Move::decode(&bytes[at..at + 3]).is_none() {
-        return Some(refusal(Refusal::Malformed, at));
+        return Some(refused(Refusal::Malformed, at));
     }
     None
 }
