@@ -1,6 +1,14 @@
 // Holds the two formats to the vectors of an independent implementation: each line of the file
 // `vectors` has a card and a sheet in hexadecimal, `-` for no bytes, and then the answer, which is
 // `accepted` or a refusal.
+ghost use mathlib.Core.Path.{_≡_};
+ghost use Prim.Native.Nat.{_≤_};
+ghost use Rattle.std.specs.Of.Vec.{vec-len};
+ghost use Rattle.std.specs.Vec.{made};
+ghost use Rattle.formats.specs.Cards.{cardFault};
+ghost use Rattle.formats.specs.Checks.{first, verdict};
+ghost use Rattle.formats.specs.Sheets.{sheetFault};
+
 mod hex;
 
 use formats::Card;
@@ -50,14 +58,18 @@ fn agrees(rt: &LibcRuntime, line: &str) -> Result<bool, AnyError> {
 }
 
 // The bytes as the programs read them from a file: 1024 at most.
-fn file_of(rt: &LibcRuntime, text: &str) -> Result<Vec<u8>, AllocError> {
-    let mut bytes = bytes_of(rt.alloc(), text)?;
+fn file_of(rt: &LibcRuntime, text: &str) -> Result<Vec<u8>, AllocError>
+    ensures { λ r. ⌜ made r (λ bytes. vec-len bytes ≤ 1024) ⌝ }
+{
+    let mut bytes = bytes_of(rt.alloc(), text.as_bytes())?;
     bytes.truncate(1024);
     Ok(bytes)
 }
 
 // The card's fault, or else the sheet's.
-fn accepted(card: &[u8], sheet: &[u8]) -> Result<(), Fault> {
+fn accepted(card: &[u8], sheet: &[u8]) -> Result<(), Fault>
+    ensures { λ r. ⌜ r ≡ verdict (first (cardFault (now (card .entry))) (sheetFault (now (sheet .entry)))) ⌝ }
+{
     Card::check(card)?;
     Sheet::check(sheet)
 }

@@ -1,4 +1,8 @@
 // Lists the litmus program in the file `card` and the moves in the file `sheet`.
+ghost use Prim.Native.Nat.{_≤_};
+ghost use Rattle.std.specs.Of.Vec.{vec-len};
+ghost use Rattle.std.specs.Vec.{made};
+
 mod report;
 
 use files::read_at_most;
@@ -27,7 +31,9 @@ fn run(rt: &LibcRuntime) -> Result<(), AnyError> {
 }
 
 // A file's bytes, or an error that names the file.
-fn load(rt: &LibcRuntime, path: &str) -> Result<Vec<u8>, AnyError> {
+fn load(rt: &LibcRuntime, path: &str) -> Result<Vec<u8>, AnyError>
+    ensures { λ r. ⌜ made r (λ bytes. vec-len bytes ≤ 1024) ⌝ }
+{
     match read_at_most(rt, path, LIMIT) {
         Ok(bytes) => Ok(bytes),
         Err(e) => Err(format!(rt.alloc(), "{path}: {e}")?.into()),
