@@ -1,13 +1,13 @@
 // What a card and a sheet say: the store-buffering program and its run on TSO.
 use formats::Card;
-use formats::Instr;
-use formats::InstrDebug;
-use formats::InstrPartialEq;
 use formats::Move;
 use formats::MoveDebug;
 use formats::MovePartialEq;
 use formats::Sheet;
-use formats::address;
+use isa::Instr;
+use isa::InstrDebug;
+use isa::InstrPartialEq;
+use isa::address;
 use model::FaultDebug;
 use model::Kind;
 use model::KindDebug;

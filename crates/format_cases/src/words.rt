@@ -1,8 +1,8 @@
 // The refusal table, the kinds, and how instructions and moves are written.
-use formats::Instr;
-use formats::InstrDisplay;
 use formats::Move;
 use formats::MoveDisplay;
+use isa::Instr;
+use isa::InstrDisplay;
 use model::Fault;
 use model::FaultDisplay;
 use model::Kind;

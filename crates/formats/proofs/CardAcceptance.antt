@@ -15,9 +15,9 @@ use Rattle.model.specs.declared.fault.Fault.{Fault}
 use Rattle.formats.specs.CardRules.{CardRules, HeaderIsWhole, IsInstruction, OneToEightAddresses, OneToFourProcessors, ThreadFits}
 use Rattle.formats.specs.Cards.{addressesIn, cardFault, countAt, fitsThread, furthest, headerFault, headerLength, instrBytes, instrFault, instrsFault, offsetAt, processorsIn, threadFault}
 use Rattle.formats.specs.Checks.{AcceptsExactly, firstOf, verdict}
-use Rattle.formats.specs.Instrs.{StandsFor, decoded}
-use Rattle.formats.specs.declared.instr.Instr.{Instr}
-use Rattle.formats.proofs.InstrDecoding.{decodes}
+use Rattle.isa.specs.Instrs.{StandsFor, decoded}
+use Rattle.isa.specs.declared.instr.Instr.{Instr}
+use Rattle.isa.proofs.Decoding.{decodes}
 use Rattle.formats.proofs.Firsts.{accepts, all-none, check-from, check-parts, each-none, first-from, first-parts}
 
 range : (low high n : ℕ) → leb low n && leb n high ≡ true → (low ≤ n) × (n ≤ high)

@@ -1,7 +1,5 @@
 mod CardAcceptance
-mod Choosing
 mod Firsts
-mod InstrDecoding
 mod Listings
 mod MoveDecoding
 mod Records

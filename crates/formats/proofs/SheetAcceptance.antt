@@ -21,7 +21,7 @@ use Rattle.formats.specs.Moves.{moveDecoded, moveLayout}
 use Rattle.formats.specs.SheetRules.{IsMove, MovesAreWhole, NamesKind, SheetRules}
 use Rattle.formats.specs.Sheets.{kindIn, moveBytes, moveFault, movesIn, sheetFault, startFault}
 use Rattle.formats.specs.declared.moves.Move.{Move}
-use Rattle.formats.proofs.Choosing.{none-some, some-cond}
+use Rattle.isa.proofs.Choosing.{none-some, some-cond}
 use Rattle.formats.proofs.Firsts.{accepts, all-none, check-from, check-parts, each-none, first-from, first-parts}
 use Rattle.formats.proofs.MoveDecoding.{decodes-move}
 

@@ -12,11 +12,11 @@ use Rattle.std.specs.shelf.Maps.{nth}
 use Rattle.std.proofs.shelf.Tests.{cases-lt, cond-true, cond-false, le-ltb, lt-ltb}
 use Rattle.formats.specs.CardRules.{CardRules}
 use Rattle.formats.specs.Cards.{cardFault, countAt, instrBytes, offsetAt, processorsIn}
-use Rattle.formats.specs.Instrs.{decoded}
+use Rattle.isa.specs.Instrs.{decoded}
 use Rattle.formats.specs.Programs.{program}
 use Rattle.formats.specs.Records.{recordsFrom}
 use Rattle.formats.proofs.CardAcceptance.{faultless-keeps}
-use Rattle.formats.proofs.InstrDecoding.{decodes}
+use Rattle.isa.proofs.Decoding.{decodes}
 use Rattle.formats.proofs.Firsts.{no-fault}
 use Rattle.formats.proofs.Records.{AllThere, records-length, records-nth}
 

@@ -3,8 +3,8 @@ use mathlib.Core.List.{List}
 use Prim.Native.Nat.{ℕ, _+_, _*_, _<_, _≤_}
 use lib.ListN.{length}
 use Rattle.formats.specs.Cards.{processorsIn, addressesIn, furthest, headerLength, countAt, offsetAt, instrBytes}
-use Rattle.formats.specs.Instrs.{StandsFor}
-use Rattle.formats.specs.declared.instr.Instr.{Instr}
+use Rattle.isa.specs.Instrs.{StandsFor}
+use Rattle.isa.specs.declared.instr.Instr.{Instr}
 
 abbrev pub OneToFourProcessors : List ℕ → Type 0
 OneToFourProcessors bs = (1 ≤ processorsIn bs) × (processorsIn bs ≤ 4)

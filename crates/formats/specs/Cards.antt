@@ -12,9 +12,9 @@ use Rattle.model.specs.declared.fault.Layer.the-variants.{Card}
 use Rattle.model.specs.declared.fault.Refusal.{Refusal}
 use Rattle.model.specs.declared.fault.Refusal.the-variants.{Cut, Count, Malformed}
 use Rattle.formats.specs.Checks.{check, first, firstOf}
-use Rattle.formats.specs.Instrs.{decoded}
-use Rattle.formats.specs.declared.instr.Instr.{Instr}
-use Rattle.formats.specs.declared.instr.Instr.the-variants.{Set, Add, Sub, Branch, Load, Store, Commit, Reconcile}
+use Rattle.isa.specs.Instrs.{decoded}
+use Rattle.isa.specs.declared.instr.Instr.{Instr}
+use Rattle.isa.specs.declared.instr.Instr.the-variants.{Set, Add, Sub, Branch, Load, Store, Commit, Reconcile}
 
 abbrev pub processorsIn : List ℕ → ℕ
 processorsIn bs = getD bs 0 0

@@ -1,9 +1,6 @@
-pub mod Addresses
 pub mod CardRules
 pub mod Cards
 pub mod Checks
-pub mod Fields
-pub mod Instrs
 pub mod Listings
 pub mod Moves
 pub mod Programs

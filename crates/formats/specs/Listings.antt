@@ -7,7 +7,7 @@ use Rattle.std.specs.Written.{decimal}
 use Rattle.model.specs.Kinds.{kindName}
 use Rattle.model.specs.Text.{text}
 use Rattle.model.specs.declared.kind.Kind.{Kind}
-use Rattle.formats.specs.Instrs.{instrText}
+use Rattle.isa.specs.Instrs.{instrText}
 use Rattle.formats.specs.Moves.{moveText}
 use Rattle.formats.specs.Programs.{Program}
 use Rattle.formats.specs.Schedules.{Schedule}

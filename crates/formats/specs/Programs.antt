@@ -4,10 +4,10 @@ use mathlib.Core.List.{List, []}
 use Prim.Native.Nat.{ℕ}
 use lib.Dec.{ltb}
 use Rattle.formats.specs.Cards.{processorsIn, addressesIn, countAt, offsetAt}
-use Rattle.formats.specs.Instrs.{decoded}
+use Rattle.isa.specs.Instrs.{decoded}
 use Rattle.formats.specs.Records.{recordsFrom}
 use Rattle.formats.specs.declared.card.Card.{Card}
-use Rattle.formats.specs.declared.instr.Instr.{Instr}
+use Rattle.isa.specs.declared.instr.Instr.{Instr}
 
 -- a thread for each processor; one that the program does not have is empty
 pub record Program : Type 0 where

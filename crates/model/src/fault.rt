@@ -83,14 +83,6 @@ impl Refusal {
     }
 }
 
-pub impl fmt::Display for Refusal as RefusalDisplay {
-    ghost shown = { λ refusal. Some (refusalWord refusal) };
-
-    fn fmt<W: fmt::Write>(&self, f: &mut fmt::Formatter<W>) -> fmt::Result {
-        f.pad(self.word())
-    }
-}
-
 // The part of the system that refuses.
 #[derive(Clone, Copy, PartialEq, Eq, Debug)]
 pub enum Layer {
@@ -102,7 +94,7 @@ pub enum Layer {
 }
 
 impl Layer {
-    pub fn name(self) -> &'static str
+    fn name(self) -> &'static str
         ensures { λ r. ⌜ now r ≡ layerName self ⌝ }
     {
         match self {

@@ -26,7 +26,7 @@ impl Kind {
     }
 
     // Its name in print.
-    pub fn name(self) -> &'static str
+    fn name(self) -> &'static str
         ensures { λ r. ⌜ now r ≡ kindName self ⌝ }
     {
         match self {

@@ -11,7 +11,7 @@ pub enum Origin {
 }
 
 // What stands at an address now. The serial is the count of stores that have landed there.
-#[derive(Clone, Copy, PartialEq, Eq)]
+#[derive(Clone, Copy)]
 pub struct Cell {
     pub word: u32,
     pub serial: u8,
@@ -33,7 +33,7 @@ impl Cell {
 
 // A store that a processor has run and that has not landed in memory yet: an entry of its store
 // buffer.
-#[derive(Clone, Copy, PartialEq, Eq)]
+#[derive(Clone, Copy)]
 pub struct WaitingStore {
     pub address: u8,
     pub word: u32,
@@ -41,7 +41,7 @@ pub struct WaitingStore {
 }
 
 // An overwritten cell that a processor may still read: an entry of its invalidation buffer.
-#[derive(Clone, Copy, PartialEq, Eq)]
+#[derive(Clone, Copy)]
 pub struct StaleCopy {
     pub address: u8,
     pub cell: Cell,

@@ -25,7 +25,7 @@ impl Order {
 }
 
 // The entries of one earlier instruction, by the kind of the later one.
-#[derive(Clone, Copy, PartialEq, Eq)]
+#[derive(Clone, Copy)]
 pub struct Row {
     pub load: Order,
     pub store: Order,
@@ -35,7 +35,7 @@ pub struct Row {
 
 impl Row {
     // The entry at a later instruction.
-    pub fn entry(&self, later: LineKind) -> Order
+    fn entry(&self, later: LineKind) -> Order
         ensures { λ r. ⌜ r ≡ entryIn (now (self .entry)) later ⌝ }
     {
         match later {
@@ -48,7 +48,7 @@ impl Row {
 }
 
 // An ordering table: a row for each kind of the earlier instruction.
-#[derive(Clone, Copy, PartialEq, Eq)]
+#[derive(Clone, Copy)]
 pub struct Table {
     pub load: Row,
     pub store: Row,

@@ -6,7 +6,7 @@ ghost use Rattle.formats.specs.Programs.{programOf};
 use crate::card::Card;
 use crate::card::parts::count_at;
 use crate::card::parts::instr_byte;
-use crate::instr::Instr;
+use isa::Instr;
 
 impl Card<'_> {
     // How many processors the program has: 1 to 4.

@@ -1,11 +1,11 @@
 // A card in plain text.
 ghost use Rattle.std.specs.Written.{Shows};
 ghost use Rattle.std.specs.declared.option.Option.the-variants.{Some};
-ghost use Rattle.formats.specs.Instrs.{instrText};
+ghost use Rattle.isa.specs.Instrs.{instrText};
 ghost use Rattle.formats.specs.Listings.{numbered, programText, programTitle, threadText, threadsText};
 ghost use Rattle.formats.specs.Programs.{programOf};
 use crate::card::Card;
-use crate::instr::InstrDisplay;
+use isa::InstrDisplay;
 use std::fmt;
 
 pub impl fmt::Display for Card<'_> as CardDisplay {

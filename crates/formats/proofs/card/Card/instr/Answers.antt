@@ -6,7 +6,7 @@ use lib.ListN.{length}
 use Rattle.std.specs.Holes.{between}
 use Rattle.std.proofs.shelf.Maps.{nth-past}
 use Rattle.formats.specs.Cards.{offsetAt}
-use Rattle.formats.specs.Instrs.{decoded}
+use Rattle.isa.specs.Instrs.{decoded}
 use Rattle.formats.specs.Programs.{program}
 use Rattle.formats.proofs.Threads.{thread-has, thread-nth}
 use Rattle.formats.proofs.card.Card.instr.Needs as need

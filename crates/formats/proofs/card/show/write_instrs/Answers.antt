@@ -1,9 +1,9 @@
 use mathlib.Core.Path.{ap, sym}
 use native.Mathlib.Omega.{arith}
 use Rattle.std.specs.Results.{isOk}
-use Rattle.formats.specs.Instrs.{instrText}
+use Rattle.isa.specs.Instrs.{instrText}
 use Rattle.formats.specs.Programs.{programOf}
-use Rattle.formats.specs.declared.instr.Instr.the-variants.{Commit}
+use Rattle.isa.specs.declared.instr.Instr.the-variants.{Commit}
 use Rattle.formats.proofs.Listings.{has-item, line-written, lines-written}
 use Rattle.formats.proofs.card.show.write_instrs.Needs as need
 

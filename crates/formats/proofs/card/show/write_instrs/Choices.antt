@@ -1,6 +1,6 @@
 use lib.ListN.{take}
 use Rattle.std.specs.Written.{Plain, Put}
-use Rattle.formats.specs.Instrs.{instrText}
+use Rattle.isa.specs.Instrs.{instrText}
 use Rattle.formats.specs.Listings.{numbered}
 use Rattle.formats.specs.Programs.{programOf}
 use Rattle.formats.proofs.card.show.write_instrs.Given as given

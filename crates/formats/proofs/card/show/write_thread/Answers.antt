@@ -1,7 +1,7 @@
 use mathlib.Core.Path.{ap}
 use Rattle.std.specs.Results.{isOk}
 use Rattle.std.proofs.Writes.{put-more}
-use Rattle.formats.specs.Instrs.{instrText}
+use Rattle.isa.specs.Instrs.{instrText}
 use Rattle.formats.specs.Listings.{numbered, threadTitle}
 use Rattle.formats.specs.Programs.{programOf}
 use Rattle.formats.proofs.card.show.write_thread.Needs as need

@@ -10,9 +10,9 @@ use Rattle.std.specs.Written.{decimal}
 use Rattle.std.specs.declared.option.Option.{Option}
 use Rattle.std.specs.declared.option.Option.the-variants.{Some, None}
 use Rattle.model.specs.Text.{text}
-use Rattle.formats.specs.Fields.{unusedClear}
-use Rattle.formats.specs.declared.instr.Instr.{Instr}
-use Rattle.formats.specs.declared.instr.Instr.the-variants.{Set, Add, Sub, Branch, Load, Store, Commit, Reconcile}
+use Rattle.isa.specs.Fields.{unusedClear}
+use Rattle.isa.specs.declared.instr.Instr.{Instr}
+use Rattle.isa.specs.declared.instr.Instr.the-variants.{Set, Add, Sub, Branch, Load, Store, Commit, Reconcile}
 
 -- how an instruction is written: its kind, and then d, s and c
 abbrev pub layout : Instr → List ℕ

@@ -4,9 +4,9 @@ use borrow.Author.Tests.{ltb-true, ltb-false}
 use lib.Dec.{eqb}
 use lib.ListN.{length}
 use Rattle.std.proofs.shelf.Tests.{cond-true, eq-eqb}
-use Rattle.formats.specs.Instrs.{decoded}
-use Rattle.formats.proofs.InstrDecoding.{decodes}
-use Rattle.formats.proofs.instr.Instr.decode.Needs as need
+use Rattle.isa.specs.Instrs.{decoded}
+use Rattle.isa.proofs.Decoding.{decodes}
+use Rattle.isa.proofs.instr.Instr.decode.Needs as need
 
 pub returns : need.returns
 returns c =

@@ -2,7 +2,7 @@
 ghost use mathlib.Core.Path.{_≡_};
 ghost use Rattle.std.specs.Written.{Shows};
 ghost use Rattle.std.specs.declared.option.Option.the-variants.{Some};
-ghost use Rattle.formats.specs.Instrs.{Decodes, accessText, decoded, instrText, ofFields, ofKind, sumText};
+ghost use Rattle.isa.specs.Instrs.{Decodes, accessText, decoded, instrText, ofFields, ofKind, sumText};
 use crate::fields::unused_are_zero;
 use std::fmt;
 

@@ -1,6 +1,6 @@
 // The address of a load or a store.
 ghost use mathlib.Core.Path.{_≡_};
-ghost use Rattle.formats.specs.Addresses.{addressOn};
+ghost use Rattle.isa.specs.Addresses.{addressOn};
 
 // The address that a base register's word and a displacement give, of so many addresses, or none
 // where it is not one of them. The sum wraps as words do.

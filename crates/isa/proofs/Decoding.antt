@@ -10,12 +10,12 @@ use lib.ListN.{length}
 use Rattle.std.specs.declared.option.Option.{Option}
 use Rattle.std.specs.declared.option.Option.the-variants.{Some, None}
 use Rattle.std.proofs.shelf.Tests.{and-from, and-parts, cases-bool, cond-true, cond-false, eqb-true, lt-ltb, ltb-true, ne-eqb}
-use Rattle.formats.specs.Fields.{unusedClear, used}
-use Rattle.formats.specs.Instrs.{StandsFor, RegistersExist, Decodes, decoded, layout, ofFields, ofKind, isRegister}
-use Rattle.formats.specs.declared.fields.Field.the-variants.{D, S, C}
-use Rattle.formats.specs.declared.instr.Instr.{Instr}
-use Rattle.formats.specs.declared.instr.Instr.the-variants.{Set, Add, Sub, Branch, Load, Store, Commit, Reconcile}
-use Rattle.formats.proofs.Choosing.{cond-some, none-some, some-cond}
+use Rattle.isa.specs.Fields.{unusedClear, used}
+use Rattle.isa.specs.Instrs.{StandsFor, RegistersExist, Decodes, decoded, layout, ofFields, ofKind, isRegister}
+use Rattle.isa.specs.declared.fields.Field.the-variants.{D, S, C}
+use Rattle.isa.specs.declared.instr.Instr.{Instr}
+use Rattle.isa.specs.declared.instr.Instr.the-variants.{Set, Add, Sub, Branch, Load, Store, Commit, Reconcile}
+use Rattle.isa.proofs.Choosing.{cond-some, none-some, some-cond}
 
 abbrev four : ℕ → ℕ → ℕ → ℕ → List ℕ
 four k d s c = k ∷ d ∷ s ∷ c ∷ []

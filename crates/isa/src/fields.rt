@@ -1,6 +1,6 @@
 // Which fields of an instruction may be other than 0.
 ghost use mathlib.Core.Path.{_≡_};
-ghost use Rattle.formats.specs.Fields.{used, unusedClear};
+ghost use Rattle.isa.specs.Fields.{used, unusedClear};
 
 // A field of an instruction, behind its kind.
 #[derive(Clone, Copy)]

@@ -2,8 +2,8 @@
 use mathlib.Core.Bool.{Bool, not, _&&_, _||_}
 use Prim.Native.Nat.{ℕ}
 use lib.Dec.{eqb, ltb}
-use Rattle.formats.specs.declared.fields.Field.{Field}
-use Rattle.formats.specs.declared.fields.Field.the-variants.{D, S, C}
+use Rattle.isa.specs.declared.fields.Field.{Field}
+use Rattle.isa.specs.declared.fields.Field.the-variants.{D, S, C}
 
 -- none for the two fences, all but s for Set and Branch, and all for the others
 abbrev pub used : ℕ → Field → Bool
