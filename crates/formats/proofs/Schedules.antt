@@ -15,13 +15,13 @@ use Rattle.formats.proofs.MoveDecoding.{decodes-move}
 use Rattle.formats.proofs.Records.{AllThere, records-length, records-nth}
 use Rattle.formats.proofs.SheetAcceptance.{faultless-keeps}
 
-module _ (bs : List ℕ) (ok : isSome (sheetFault bs) ≡ false) where
-  pub rules : SheetRules bs
-  rules = faultless-keeps bs (no-fault (sheetFault bs) ok)
+pub rules : (bs : List ℕ) → isSome (sheetFault bs) ≡ false → SheetRules bs
+rules bs ok = faultless-keeps bs (no-fault (sheetFault bs) ok)
 
+module _ (bs : List ℕ) (ok : isSome (sheetFault bs) ≡ false) where
   all-there : AllThere moveDecoded 3 bs 2 (movesIn bs)
   all-there i l =
-      let m = rules .moves i l in
+      let m = rules bs ok .moves i l in
       (m .0, decodes-move (moveBytes bs i) (moveDecoded (moveBytes bs i)) refl (m .0) .1 (m .1))
 
   pub moves-length : movesIn bs ≡ length (schedule bs .moves)

@@ -23,6 +23,6 @@ loop-processor-again g c plain =
 pub returns : need.returns
 returns g c plain ok =
     let prog = programOf (c .args .card .now) in
-    let all : c .loop-processor .processor ≡ prog .processors = omega (arith, c .processors-processor-end .ensures) in
+    let all : c .loop-processor .processor ≡ prog .processors = omega (arith, c .processors-processor-end .ensures .value) in
     put-is (g .W·Write .took) (c .args .f .now) (threadsText prog (c .loop-processor .processor)) (threadsText prog (prog .processors)) (c .loop-processor .f)
     (ap (threadsText prog) all) (c .loop-processor .inv plain)

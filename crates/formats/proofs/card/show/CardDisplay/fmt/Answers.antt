@@ -10,7 +10,7 @@ returns g c plain ok =
     let prog = programOf (c .args .self .now) in
     let took = g .W·Write .took in
     let f = c .args .f .now in
-    let same = ap (λ p. programTitle p (c .addresses .result)) (c .processors .ensures) ∙ ap (programTitle (prog .processors)) (c .addresses .ensures) in
+    let same = ap (λ p. programTitle p (c .addresses .result)) (c .processors .ensures .value) ∙ ap (programTitle (prog .processors)) (c .addresses .ensures .value) in
     let title =
     put-is took f (programTitle (c .processors .result) (c .addresses .result)) (programTitle (prog .processors) (prog .addresses)) (c .write-title .last .f) same
     (c .write-title .ensures plain (ap isOk (c .in-Continue-write-title .was tt))) in
