@@ -1,21 +1,19 @@
 -- A card has no fault exactly where it keeps every rule.
-use mathlib.Core.Bool.{Bool, true, false, _&&_}
+use mathlib.Core.Bool.{true, false, _&&_}
 use mathlib.Core.List.{List}
-use mathlib.Core.Path.{_≡_, refl, sym, ap, subst, _∙_}
+use mathlib.Core.Path.{_≡_, refl, ap, _∙_}
 use Prim.Native.Nat.{ℕ, _+_, _*_, _<_, _≤_}
-use native.Mathlib.Omega.{arith}
 use lib.Dec.{leb}
 use lib.ListN.{length}
 use Rattle.std.specs.declared.option.Option.{Option}
 use Rattle.std.specs.declared.option.Option.the-variants.{Some, None}
 use Rattle.std.specs.declared.result.Result.{Result}
-use Rattle.std.specs.declared.result.Result.the-variants.{Ok, Err}
 use Rattle.std.proofs.shelf.Tests.{and-from, and-parts, false≢true, le-leb, leb-true}
 use Rattle.model.specs.declared.fault.Fault.{Fault}
 use Rattle.formats.specs.CardRules.{CardRules, HeaderIsWhole, IsInstruction, OneToEightAddresses, OneToFourProcessors, ThreadFits}
 use Rattle.formats.specs.Cards.{addressesIn, cardFault, countAt, fitsThread, furthest, headerFault, headerLength, instrBytes, instrFault, instrsFault, offsetAt, processorsIn, threadFault}
 use Rattle.formats.specs.Checks.{AcceptsExactly, firstOf, verdict}
-use Rattle.isa.specs.Instrs.{StandsFor, decoded}
+use Rattle.isa.specs.Instrs.{decoded}
 use Rattle.isa.specs.declared.instr.Instr.{Instr}
 use Rattle.isa.proofs.Decoding.{decodes}
 use Rattle.formats.proofs.Firsts.{accepts, all-none, check-from, check-parts, each-none, first-from, first-parts}

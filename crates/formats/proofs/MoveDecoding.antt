@@ -1,15 +1,15 @@
 -- Bytes are decoded as a move exactly where they are its own.
-use mathlib.Core.Bool.{Bool, true, false, cond}
+use mathlib.Core.Bool.{false}
 use mathlib.Core.List.{List, [], _∷_}
 use mathlib.Core.Logic.{⊎-elim}
-use mathlib.Core.Path.{_≡_, refl, sym, ap, subst, _∙_}
+use mathlib.Core.Path.{_≡_, refl, sym, ap, _∙_}
 use Prim.Native.Nat.{ℕ, suc}
 use native.Mathlib.Omega.{arith}
 use lib.Dec.{eqb}
 use lib.ListN.{length}
 use Rattle.std.specs.declared.option.Option.{Option}
 use Rattle.std.specs.declared.option.Option.the-variants.{Some, None}
-use Rattle.std.proofs.shelf.Tests.{cases-bool, cond-false, cond-true, eqb-true, ne-eqb}
+use Rattle.std.proofs.shelf.Tests.{cond-false, eqb-true, ne-eqb}
 use Rattle.formats.specs.Moves.{DecodesMove, moveDecoded, moveLayout, moveOf}
 use Rattle.formats.specs.declared.moves.Move.{Move}
 use Rattle.formats.specs.declared.moves.Move.the-variants.{Step, OldLoad, Landing}

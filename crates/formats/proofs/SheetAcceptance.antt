@@ -1,10 +1,9 @@
 -- A sheet has no fault exactly where it keeps every rule.
-use mathlib.Core.Bool.{Bool, true, false}
+use mathlib.Core.Bool.{true, false}
 use mathlib.Core.List.{List}
 use mathlib.Core.Logic.{⊎-elim}
-use mathlib.Core.Path.{_≡_, refl, sym, ap, subst, _∙_}
-use Prim.Native.Nat.{ℕ, _+_, _*_, _<_, _≤_}
-use native.Mathlib.Omega.{arith}
+use mathlib.Core.Path.{_≡_, refl, ap, _∙_}
+use Prim.Native.Nat.{ℕ, _+_, _*_}
 use lib.Dec.{leb}
 use lib.ListN.{length}
 use Rattle.std.specs.Options.{isSome}
@@ -16,11 +15,10 @@ use Rattle.model.specs.Kinds.{kindNumber, kindNumbered}
 use Rattle.model.specs.declared.fault.Fault.{Fault}
 use Rattle.model.specs.declared.kind.Kind.{Kind}
 use Rattle.model.specs.declared.kind.Kind.the-variants.{Sc, Tso, Pso, Wmm}
-use Rattle.formats.specs.Checks.{AcceptsExactly, firstOf, verdict}
-use Rattle.formats.specs.Moves.{moveDecoded, moveLayout}
+use Rattle.formats.specs.Checks.{AcceptsExactly, verdict}
+use Rattle.formats.specs.Moves.{moveDecoded}
 use Rattle.formats.specs.SheetRules.{IsMove, MovesAreWhole, NamesKind, SheetRules}
 use Rattle.formats.specs.Sheets.{kindIn, moveBytes, moveFault, movesIn, sheetFault, startFault}
-use Rattle.formats.specs.declared.moves.Move.{Move}
 use Rattle.isa.proofs.Choosing.{none-some, some-cond}
 use Rattle.formats.proofs.Firsts.{accepts, all-none, check-from, check-parts, each-none, first-from, first-parts}
 use Rattle.formats.proofs.MoveDecoding.{decodes-move}

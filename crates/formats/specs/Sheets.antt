@@ -1,7 +1,7 @@
 -- Sheets: where the parts of one lie, and the first rule that bytes break.
 use mathlib.Core.List.{List}
 use Prim.Native.Nat.{ℕ, _+_, _*_}
-use lib.Dec.{leb, ltb}
+use lib.Dec.{leb}
 use lib.ListN.{length, getD}
 use Rattle.std.specs.Holes.{between}
 use Rattle.std.specs.Options.{isSome}

@@ -1,18 +1,17 @@
 -- Bytes are decoded as an instruction exactly where they stand for it.
-use mathlib.Core.Bool.{Bool, true, false, cond, _&&_, _||_}
+use mathlib.Core.Bool.{Bool, true, false, cond, _&&_}
 use mathlib.Core.List.{List, [], _∷_}
-use mathlib.Core.Logic.{_⊎_, inl, inr, ⊎-elim}
+use mathlib.Core.Logic.{_⊎_, ⊎-elim}
 use mathlib.Core.Path.{_≡_, refl, sym, ap, subst, _∙_}
 use Prim.Native.Nat.{ℕ, suc, _<_}
 use native.Mathlib.Omega.{arith}
-use lib.Dec.{eqb, ltb}
+use lib.Dec.{eqb}
 use lib.ListN.{length}
 use Rattle.std.specs.declared.option.Option.{Option}
 use Rattle.std.specs.declared.option.Option.the-variants.{Some, None}
 use Rattle.std.proofs.shelf.Tests.{and-from, and-parts, cases-bool, cond-true, cond-false, eqb-true, lt-ltb, ltb-true, ne-eqb}
-use Rattle.isa.specs.Fields.{unusedClear, used}
+use Rattle.isa.specs.Fields.{unusedClear}
 use Rattle.isa.specs.Instrs.{StandsFor, RegistersExist, Decodes, decoded, layout, ofFields, ofKind, isRegister}
-use Rattle.isa.specs.declared.fields.Field.the-variants.{D, S, C}
 use Rattle.isa.specs.declared.instr.Instr.{Instr}
 use Rattle.isa.specs.declared.instr.Instr.the-variants.{Set, Add, Sub, Branch, Load, Store, Commit, Reconcile}
 use Rattle.isa.proofs.Choosing.{cond-some, none-some, some-cond}

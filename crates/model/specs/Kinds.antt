@@ -15,10 +15,6 @@ kindNumber Tso = 1
 kindNumber Pso = 2
 kindNumber Wmm = 3
 
--- how many kinds there are: the numbers below it are theirs
-abbrev pub kindCount : ℕ
-kindCount = 4
-
 abbrev pub kindNumbered : ℕ → Option Kind
 kindNumbered n =
     cond (eqb n 0) (Some Sc) (cond (eqb n 1) (Some Tso) (cond (eqb n 2) (Some Pso) (cond (eqb n 3) (Some Wmm) None)))

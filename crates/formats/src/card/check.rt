@@ -4,7 +4,7 @@ ghost use Prim.Native.Nat.{ℕ, _+_, _*_, _<_, _≤_};
 ghost use lib.ListN.{length};
 ghost use Rattle.std.specs.declared.result.Result.the-variants.{Ok};
 ghost use Rattle.formats.specs.CardRules.{CardRules, ThreadFits};
-ghost use Rattle.formats.specs.Cards.{cardFault, cardRefusal, countAt, fitsThread, furthest, headerFault, headerLength, instrFault, instrsFault, offsetAt, processorsIn, threadFault};
+ghost use Rattle.formats.specs.Cards.{cardFault, cardRefusal, countAt, fitsThread, furthest, headerFault, headerLength, instrFault, instrsFault, processorsIn, threadFault};
 ghost use Rattle.formats.specs.Checks.{AcceptsExactly, firstOf, verdict};
 ghost use Rattle.isa.specs.Instrs.{decoded};
 use crate::card::Card;

@@ -1,4 +1,3 @@
-use mathlib.Core.Path.{_≡_, sym, _∙_}
 use Rattle.formats.specs.Cards.{processorsIn, threadFault}
 use Rattle.formats.proofs.Firsts.{found, passed}
 use Rattle.formats.proofs.card.check.threads_fault.Needs as need
