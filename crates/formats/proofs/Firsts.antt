@@ -1,7 +1,7 @@
 -- Checks in a row: what a loop over them keeps, and when none of them refuses.
 use mathlib.Core.Bool.{Bool, true, false}
 use mathlib.Core.Path.{_≡_, refl, sym, ap, _∙_}
-use Prim.Native.Nat.{ℕ, zero, suc, _+_, _-_, _<_, _≤_}
+use Prim.Native.Nat.{ℕ, zero, suc, _+_, _-_, _<_}
 use native.Mathlib.Omega.{arith}
 use Rattle.std.specs.Options.{isSome}
 use Rattle.std.specs.declared.option.Option.{Option}
@@ -9,22 +9,20 @@ use Rattle.std.specs.declared.option.Option.the-variants.{Some, None}
 use Rattle.std.specs.declared.result.Result.{Result}
 use Rattle.std.proofs.shelf.Tests.{true≢false}
 use Rattle.model.specs.declared.fault.Fault.{Fault}
+use Rattle.isa.proofs.Choosing.{none-some}
 use Rattle.formats.specs.Checks.{AcceptsExactly, check, first, firstOf, verdict}
 use Rattle.formats.proofs.Verdicts.{accepted}
 
-none-some : (fault : Fault) → Some fault ≡ None → ⊥
-none-some fault e = let z : _≡_ {A = ℕ} 0 1 = cc in omega arith
-
 pub check-parts : (rule : Bool) (fault : Fault) (later : Option Fault) → check rule fault later ≡ None → (rule ≡ true) × (later ≡ None)
 check-parts true fault later e = (refl, e)
-check-parts false fault later e = absurd (none-some fault e)
+check-parts false fault later e = absurd (none-some fault (sym e))
 
 pub check-from : (rule : Bool) (fault : Fault) (later : Option Fault) → rule ≡ true → later ≡ None → check rule fault later ≡ None
 check-from rule fault later r l = ap (λ b. check b fault later) r ∙ l
 
 pub first-parts : (a b : Option Fault) → first a b ≡ None → (a ≡ None) × (b ≡ None)
 first-parts None b e = (refl, e)
-first-parts (Some fault) b e = absurd (none-some fault e)
+first-parts (Some fault) b e = absurd (none-some fault (sym e))
 
 pub first-from : (a b : Option Fault) → a ≡ None → b ≡ None → first a b ≡ None
 first-from a b p q = ap (λ o. first o b) p ∙ q
@@ -42,9 +40,6 @@ module _ (f : ℕ → Option Fault) where
 
   pub passed : (i n : ℕ) → i < n → None ≡ f i → Pending i n → Pending (i + 1) n
   passed i n h e inv = sym (one-more i n h ∙ ap (λ o. first o (firstOf f (i + 1) (n - (i + 1)))) (sym e)) ∙ inv
-
-  pub ended : (i n : ℕ) → n ≤ i → Pending i n → None ≡ firstOf f 0 n
-  ended i n h inv = let z : n - i ≡ 0 = omega arith in sym (ap (firstOf f i) z) ∙ inv
 
   each-from : (i n : ℕ) → firstOf f i n ≡ None → (k : ℕ) → k < n → f (i + k) ≡ None
   each-from i zero e k h = absurd (omega arith)

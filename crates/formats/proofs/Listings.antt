@@ -9,7 +9,7 @@ use Rattle.std.specs.Written.{decimal, Plain, Put}
 use Rattle.std.specs.declared.fmt.Formatter.{Formatter}
 use Rattle.std.specs.declared.option.Option.the-variants.{Some, None}
 use Rattle.std.specs.shelf.Maps.{nth}
-use Rattle.std.proofs.Writes.{put-more, put-is, wrote-none}
+use Rattle.std.proofs.Writes.{put-more, put-is}
 use Rattle.std.proofs.shelf.Lists.{append-assoc, append-nil, take-all}
 use Rattle.std.proofs.shelf.Maps.{nth-getD}
 use Rattle.model.specs.Text.{text}
@@ -47,9 +47,6 @@ module _ {T : Type 0} (show : T → List ℕ) where
   has-item xs i d h e = none-some (getD xs i d) (e ∙ nth-getD xs i d h)
 
   module _ {W : Type 0} (took : W → List ℕ → W → Type 0) (f : Formatter W) where
-    pub none-written : Plain f → Put took f [] f
-    none-written plain = record { wrote = wrote-none took (f .writer); plain = plain }
-
     -- one more line of a loop that has written i of them
     pub line-written : (xs : List T) (i : ℕ) (x : T) (g h : Formatter W) → nth xs i ≡ Some x → Put took f (numbered show 0 (take i xs)) g → (Plain g → Put took g (line i x) h) → Put took f (numbered show 0 (take (i + 1) xs)) h
     line-written xs i x g h e so-far next =

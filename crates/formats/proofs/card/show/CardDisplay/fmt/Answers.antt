@@ -1,5 +1,5 @@
-use mathlib.Core.Path.{ap, _∙_}
-use Rattle.std.specs.Results.{isOk}
+use mathlib.Core.Bool.{true}
+use mathlib.Core.Path.{ap, refl, _∙_}
 use Rattle.std.proofs.Writes.{put-is, put-more}
 use Rattle.formats.specs.Listings.{programTitle, threadsText}
 use Rattle.formats.specs.Programs.{programOf}
@@ -13,6 +13,6 @@ returns g c plain ok =
     let same = ap (λ p. programTitle p (c .addresses .result)) (c .processors .ensures .value) ∙ ap (programTitle (prog .processors)) (c .addresses .ensures .value) in
     let title =
     put-is took f (programTitle (c .processors .result) (c .addresses .result)) (programTitle (prog .processors) (prog .addresses)) (c .write-title .last .f) same
-    (c .write-title .ensures plain (ap isOk (c .in-Continue-write-title .was tt))) in
+    (c .in-Continue-write-title .ensures tt plain (refl {a = true})) in
     put-more took f (programTitle (prog .processors) (prog .addresses)) (c .write-title .last .f) (threadsText prog (prog .processors)) (c .write-threads .last .f)
     title (c .write-threads .ensures (title .plain) ok)

@@ -1,6 +1,6 @@
-use mathlib.Core.Path.{ap, _∙_}
+use mathlib.Core.Bool.{true}
+use mathlib.Core.Path.{ap, refl, _∙_}
 use lib.ListN.{length}
-use Rattle.std.specs.Results.{isOk}
 use Rattle.std.proofs.Writes.{put-is, put-more}
 use Rattle.formats.specs.Listings.{numbered, scheduleTitle}
 use Rattle.formats.specs.Moves.{moveText}
@@ -15,6 +15,6 @@ returns g c plain ok =
     let same = ap (λ k. scheduleTitle k (c .len .result)) (c .kind .ensures) ∙ ap (scheduleTitle (plan .kind)) (c .len .ensures) in
     let title =
     put-is took f (scheduleTitle (c .kind .result) (c .len .result)) (scheduleTitle (plan .kind) (length (plan .moves))) (c .write-title .last .f) same
-    (c .write-title .ensures plain (ap isOk (c .in-Continue-write-title .was tt))) in
+    (c .in-Continue-write-title .ensures tt plain (refl {a = true})) in
     put-more took f (scheduleTitle (plan .kind) (length (plan .moves))) (c .write-title .last .f) (numbered moveText 0 (plan .moves)) (c .write-moves .last .f)
     title (c .write-moves .ensures (title .plain) ok)
