@@ -9,7 +9,7 @@ use Rattle.std.specs.declared.option.Option.the-variants.{Some, None}
 use Rattle.std.specs.declared.result.Result.{Result}
 use Rattle.std.proofs.shelf.Tests.{true≢false}
 use Rattle.model.specs.declared.fault.Fault.{Fault}
-use Rattle.isa.proofs.Choosing.{none-some}
+use Rattle.model.proofs.Choosing.{none-some}
 use Rattle.formats.specs.Checks.{AcceptsExactly, check, first, firstOf, verdict}
 use Rattle.formats.proofs.Verdicts.{accepted}
 

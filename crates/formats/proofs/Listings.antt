@@ -15,7 +15,7 @@ use Rattle.std.proofs.shelf.Maps.{nth-getD}
 use Rattle.model.specs.Text.{text}
 use Rattle.formats.specs.Listings.{numbered, threadText, threadsText}
 use Rattle.formats.specs.Programs.{Program}
-use Rattle.isa.proofs.Choosing.{none-some}
+use Rattle.model.proofs.Choosing.{none-some}
 
 module _ {T : Type 0} (show : T → List ℕ) where
   abbrev pub line : ℕ → T → List ℕ

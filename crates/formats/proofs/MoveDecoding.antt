@@ -13,7 +13,7 @@ use Rattle.std.proofs.shelf.Tests.{cond-false, eqb-true, ne-eqb}
 use Rattle.formats.specs.Moves.{DecodesMove, moveDecoded, moveLayout, moveOf}
 use Rattle.formats.specs.declared.moves.Move.{Move}
 use Rattle.formats.specs.declared.moves.Move.the-variants.{Step, OldLoad, Landing}
-use Rattle.isa.proofs.Choosing.{cond-some, none-some, some-cond}
+use Rattle.model.proofs.Choosing.{cond-some, none-some, some-cond}
 
 of-move : (k p x : ℕ) (m : Move) → moveOf k p x ≡ Some m → k ∷ p ∷ x ∷ [] ≡ moveLayout m
 of-move k p x m e =

@@ -1,8 +1,7 @@
 -- A sheet has no fault exactly where it keeps every rule.
 use mathlib.Core.Bool.{true, false}
 use mathlib.Core.List.{List}
-use mathlib.Core.Logic.{⊎-elim}
-use mathlib.Core.Path.{_≡_, refl, ap, _∙_}
+use mathlib.Core.Path.{_≡_, refl, ap}
 use Prim.Native.Nat.{ℕ, _+_, _*_}
 use lib.Dec.{leb}
 use lib.ListN.{length}
@@ -11,15 +10,13 @@ use Rattle.std.specs.declared.option.Option.{Option}
 use Rattle.std.specs.declared.option.Option.the-variants.{Some, None}
 use Rattle.std.specs.declared.result.Result.{Result}
 use Rattle.std.proofs.shelf.Tests.{false≢true, le-leb, leb-true}
-use Rattle.model.specs.Kinds.{kindNumber, kindNumbered}
+use Rattle.model.specs.Kinds.{DecodesKind, kindNumbered}
 use Rattle.model.specs.declared.fault.Fault.{Fault}
-use Rattle.model.specs.declared.kind.Kind.{Kind}
-use Rattle.model.specs.declared.kind.Kind.the-variants.{Sc, Tso, Pso, Wmm}
 use Rattle.formats.specs.Checks.{AcceptsExactly, verdict}
 use Rattle.formats.specs.Moves.{moveDecoded}
 use Rattle.formats.specs.SheetRules.{IsMove, MovesAreWhole, NamesKind, SheetRules}
 use Rattle.formats.specs.Sheets.{kindIn, moveBytes, moveFault, movesIn, sheetFault, startFault}
-use Rattle.isa.proofs.Choosing.{none-some, some-cond}
+use Rattle.model.proofs.Numbering.{decodes-kind}
 use Rattle.formats.proofs.Firsts.{accepts, all-none, check-from, check-parts, each-none, first-from, first-parts}
 use Rattle.formats.proofs.MoveDecoding.{decodes-move}
 
@@ -27,22 +24,8 @@ there : {T : Type 0} (o : Option T) → isSome o ≡ true → (x : T) × (o ≡ 
 there None e = absurd (false≢true e)
 there (Some x) e = (x, refl)
 
-named : (n : ℕ) (k : Kind) → kindNumbered n ≡ Some k → n ≡ kindNumber k
-named n k e =
-    ⊎-elim (λ h. h .0 ∙ ap kindNumber (same Sc (h .1))) (λ e.
-    ⊎-elim (λ h. h .0 ∙ ap kindNumber (same Tso (h .1))) (λ e.
-    ⊎-elim (λ h. h .0 ∙ ap kindNumber (same Pso (h .1))) (λ e.
-    ⊎-elim (λ h. h .0 ∙ ap kindNumber (same Wmm (h .1))) (λ e. absurd (none-some k e))
-    (some-cond n 3 _ _ k e)) (some-cond n 2 _ _ k e)) (some-cond n 1 _ _ k e)) (some-cond n 0 _ _ k e)
-  where
-    same : (j : Kind) → Some j ≡ Some k → j ≡ k
-    same j e = cc
-
-numbered : (k : Kind) → kindNumbered (kindNumber k) ≡ Some k
-numbered Sc = refl
-numbered Tso = refl
-numbered Pso = refl
-numbered Wmm = refl
+kind-is : (bs : List ℕ) → DecodesKind (kindIn bs) (kindNumbered (kindIn bs))
+kind-is bs = decodes-kind (kindIn bs) (kindNumbered (kindIn bs)) refl
 
 -- what a start that has no fault keeps
 pub record StartRules (bs : List ℕ) : Type 0 where
@@ -56,14 +39,14 @@ start-keeps bs e =
     let c = check-parts (leb (2 + 3 * movesIn bs) (length bs)) _ _ (b .1) in
     let k = there (kindNumbered (kindIn bs)) (b .0) in
     record {
-      kind = (k .0, named (kindIn bs) (k .0) (k .1));
+      kind = (k .0, kind-is bs (k .0) .0 (k .1));
       whole = (leb-true 2 (length bs) (a .0), leb-true (2 + 3 * movesIn bs) (length bs) (c .0));
     }
 
 keeps-start : (bs : List ℕ) → StartRules bs → startFault bs ≡ None
 keeps-start bs h =
     check-from (leb 2 (length bs)) _ _ (le-leb 2 (length bs) (h .whole .0))
-    (check-from (isSome (kindNumbered (kindIn bs))) _ _ (ap (λ n. isSome (kindNumbered n)) (h .kind .1) ∙ ap isSome (numbered (h .kind .0)))
+    (check-from (isSome (kindNumbered (kindIn bs))) _ _ (ap isSome (kind-is bs (h .kind .0) .1 (h .kind .1)))
     (check-from (leb (2 + 3 * movesIn bs) (length bs)) _ _ (le-leb (2 + 3 * movesIn bs) (length bs) (h .whole .1)) refl))
 
 move-keeps : (bs : List ℕ) (i : ℕ) → moveFault bs i ≡ None → IsMove bs i

@@ -14,7 +14,7 @@ use Rattle.isa.specs.Fields.{unusedClear}
 use Rattle.isa.specs.Instrs.{StandsFor, RegistersExist, Decodes, decoded, layout, ofFields, ofKind, isRegister}
 use Rattle.isa.specs.declared.instr.Instr.{Instr}
 use Rattle.isa.specs.declared.instr.Instr.the-variants.{Set, Add, Sub, Branch, Load, Store, Commit, Reconcile}
-use Rattle.isa.proofs.Choosing.{cond-some, none-some, some-cond}
+use Rattle.model.proofs.Choosing.{cond-some, none-some, some-cond}
 
 abbrev four : ℕ → ℕ → ℕ → ℕ → List ℕ
 four k d s c = k ∷ d ∷ s ∷ c ∷ []

@@ -1,6 +1,7 @@
 -- The kinds of machine, with number and name.
 use mathlib.Core.Bool.{cond}
 use mathlib.Core.List.{List}
+use mathlib.Core.Path.{_≡_}
 use Prim.Native.Nat.{ℕ}
 use lib.Chars.{codes}
 use lib.Dec.{eqb}
@@ -18,6 +19,10 @@ kindNumber Wmm = 3
 abbrev pub kindNumbered : ℕ → Option Kind
 kindNumbered n =
     cond (eqb n 0) (Some Sc) (cond (eqb n 1) (Some Tso) (cond (eqb n 2) (Some Pso) (cond (eqb n 3) (Some Wmm) None)))
+
+-- an answer that is a kind exactly where the number is that kind's
+abbrev pub DecodesKind : ℕ → Option Kind → Type 0
+DecodesKind n r = (kind : Kind) → (r ≡ Some kind → n ≡ kindNumber kind) × (n ≡ kindNumber kind → r ≡ Some kind)
 
 abbrev pub kindName : Kind → List ℕ
 kindName Sc = codes "SC"

@@ -1,7 +1,7 @@
 // The kinds of machine.
 ghost use mathlib.Core.Path.{_≡_};
 ghost use Rattle.std.specs.declared.option.Option.the-variants.{Some};
-ghost use Rattle.model.specs.Kinds.{kindName, kindNumber, kindNumbered};
+ghost use Rattle.model.specs.Kinds.{DecodesKind, kindName, kindNumber, kindNumbered};
 use std::fmt;
 
 // A kind of machine: the memory model that a chip publishes.
@@ -39,15 +39,22 @@ impl Kind {
 
     // The kind of a number, or none past the last.
     pub fn numbered(number: u8) -> Option<Kind>
-        ensures { λ r. ⌜ r ≡ kindNumbered number ⌝ }
+        ensures value { λ r. ⌜ r ≡ kindNumbered number ⌝ }
+        ensures exact { λ r. ⌜ DecodesKind number r ⌝ }
     {
-        match number {
-            0 => Some(Kind::Sc),
-            1 => Some(Kind::Tso),
-            2 => Some(Kind::Pso),
-            3 => Some(Kind::Wmm),
-            _ => None,
-        }
+        of_number(number)
+    }
+}
+
+fn of_number(number: u8) -> Option<Kind>
+    ensures { λ r. ⌜ r ≡ kindNumbered number ⌝ }
+{
+    match number {
+        0 => Some(Kind::Sc),
+        1 => Some(Kind::Tso),
+        2 => Some(Kind::Pso),
+        3 => Some(Kind::Wmm),
+        _ => None,
     }
 }
 
