@@ -1,5 +1,7 @@
 // Records that carry an address, oldest first: searches and removals, and a buffer of them for each
 // processor.
+#![tactic(auto)]
+
 mod addressed;
 mod buffers;
 mod query;

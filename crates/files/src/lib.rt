@@ -1,4 +1,6 @@
 // Reading the start of a file.
+#![tactic(auto)]
+
 ghost use Rattle.std.specs.Prelude.{◌≤◌, IfOk, vec_len};
 
 use std::io::{ErrorKind, Read};

@@ -1,4 +1,6 @@
 // Room in the port: a kind of machine that is none of the four, and a layer over any kind.
+#![tactic(auto)]
+
 mod eager;
 mod passing;
 mod uses;

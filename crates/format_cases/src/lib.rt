@@ -1,4 +1,6 @@
 // Cases of the two formats and of the refusal table, worked out by hand.
+#![tactic(auto)]
+
 #[cfg(test)]
 mod cards;
 #[cfg(test)]

@@ -1,6 +1,8 @@
 // Holds the two formats to the vectors of an independent implementation: each line of the file
 // `vectors` has a card and a sheet in hexadecimal, `-` for no bytes, and then the answer, which is
 // `accepted` or a refusal.
+#![tactic(auto)]
+
 ghost use Rattle.std.specs.Prelude.{◌≡◌, ◌≤◌, IfOk, vec_len};
 ghost use Rattle.formats.specs.Cards.{card_fault};
 ghost use Rattle.formats.specs.Checks.{first, verdict};

@@ -1,4 +1,6 @@
 // The two byte formats: checked views over a litmus program (a card) and a list of moves (a sheet).
+#![tactic(auto)]
+
 mod card;
 mod moves;
 mod sheet;

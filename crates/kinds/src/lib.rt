@@ -1,4 +1,6 @@
 // The four published kinds of machine: what tells them apart, and their rules.
+#![tactic(auto)]
+
 mod behaviour;
 mod tables;
 

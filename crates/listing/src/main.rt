@@ -1,4 +1,6 @@
 // Lists the litmus program in the file `card` and the moves in the file `sheet`.
+#![tactic(auto)]
+
 ghost use Rattle.std.specs.Prelude.{◌≤◌, IfOk, vec_len};
 
 mod report;

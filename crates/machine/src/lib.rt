@@ -1,4 +1,6 @@
 // The four machines behind the port, over one implementation.
+#![tactic(auto)]
+
 mod buffered;
 mod four;
 mod parts;

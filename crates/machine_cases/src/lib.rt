@@ -1,5 +1,7 @@
 // Cases at the edges of the port, worked out by hand: calls on a new machine, each with what it must
 // answer.
+#![tactic(auto)]
+
 #[cfg(test)]
 mod call;
 #[cfg(test)]

@@ -1,4 +1,6 @@
 // Plays one list of calls on each of the four machines, and prints what each holds after every call.
+#![tactic(auto)]
+
 mod answers;
 mod calls;
 mod make;

@@ -1,5 +1,7 @@
 // The plain values that every other crate speaks of: what a memory holds, what stands in a memory
 // order, what an ordering table asks, which kinds of machine there are, and how a call refuses.
+#![tactic(auto)]
+
 mod fault;
 mod kind;
 mod line;

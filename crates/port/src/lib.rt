@@ -1,4 +1,6 @@
 // The port: one interface that reaches every machine, today's and those to come.
+#![tactic(auto)]
+
 mod memory;
 mod port;
 mod stored;

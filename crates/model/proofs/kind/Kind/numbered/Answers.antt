@@ -3,4 +3,4 @@ use Rattle.model.proofs.kind.Kind.numbered.Goals as goal
 
 pub returns : goal.returns
 returns c =
-    record { value = c.of-number.ensures; exact = decodes_kind c.args.number c.of-number.result c.of-number.ensures }
+    record { value = c.of_number.ensures; exact = decodes_kind c.args.number c.of_number.result c.of_number.ensures }
