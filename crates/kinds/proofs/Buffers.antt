@@ -1,7 +1,7 @@
 -- Buffers as lists: what the relations on them say is what searches and removals answer.
 use Rattle.std.proofs.Common.{◌≡◌, ℕ, ◌<◌, Bool, true, false, cond, not, ◌&&◌, eqb, ltb, ◌⊎◌, List, [], ◌∷◌, map, Some, None, Option, sym, refl, ap, ◌∙◌, subst, inl, inr, ⊎_elim, arith}
 use mathlib.Core.Path.{fun_ext}
-use Rattle.std.specs.List.{AllByRecursion as All}
+use Rattle.std.specs.List.{AllByRecursion}
 use Rattle.std.proofs.lemmas.Bool.{cases_Bool, cond-true, cond-false, eqb-true, eqb-false, eq-eqb, ne_eqb, le-ltb, lt-ltb, and_parts, and_from, and_left, and_right, not-true, not_from_true, not_from_false, true≢false, both_ways}
 use Rattle.model.specs.Lists.{upd, none_of, oldest, without_oldest, youngest_else, without, Pairs}
 use Rattle.model.specs.declared.memory.StaleCopy.{StaleCopy}
@@ -59,7 +59,7 @@ module _ {T : Type 0} (test : T → Bool) where
       let e = and_parts (not (test x)) (none_of test xs) n in
       youngest_none (cond (test x) (Some x) o) xs e.1 ∙ cond-false (test x) (Some x) o (not-true (test x) e.0)
 
-  pub all_oldest : (P : T → Type 0) (xs : List T) (x : T) → All P xs → oldest test xs ≡ Some x → P x
+  pub all_oldest : (P : T → Type 0) (xs : List T) (x : T) → AllByRecursion P xs → oldest test xs ≡ Some x → P x
   all_oldest P [] x h e = let z : ◌≡◌ {A = ℕ} 0 1 = cc in absurd (omega arith)
   all_oldest P (y ∷ xs) x h e = go (test y) e (λ r. all_oldest P xs x h.1 r)
     where
@@ -67,7 +67,7 @@ module _ {T : Type 0} (test : T → Bool) where
       go true r rec = let i : y ≡ x = cc in subst P i h.0
       go false r rec = rec r
 
-  pub none_from_all : (xs : List T) → All (λ x. test x ≡ false) xs → none_of test xs ≡ true
+  pub none_from_all : (xs : List T) → AllByRecursion (λ x. test x ≡ false) xs → none_of test xs ≡ true
   none_from_all [] h = refl
   none_from_all (x ∷ xs) h = and_from (not (test x)) (none_of test xs) (not_from_false (test x) h.0) (none_from_all xs h.1)
 
@@ -188,10 +188,10 @@ module _ (a : ℕ) where
   random_ways (random_other c w rest v left ne r) = inr (inr (ne, left, r, refl))
 
   -- no younger copy is older
-  none_older : (c : StaleCopy) (cs : List StaleCopy) → c.address ≡ a → All (Rises c) cs → without (older_copy a c.cell.serial) cs ≡ cs
+  none_older : (c : StaleCopy) (cs : List StaleCopy) → c.address ≡ a → AllByRecursion (Rises c) cs → without (older_copy a c.cell.serial) cs ≡ cs
   none_older c cs at rises = rest_none (older_copy a c.cell.serial) cs (none cs rises)
     where
-      none : (ds : List StaleCopy) → All (Rises c) ds → none_of (older_copy a c.cell.serial) ds ≡ true
+      none : (ds : List StaleCopy) → AllByRecursion (Rises c) ds → none_of (older_copy a c.cell.serial) ds ≡ true
       none [] r = refl
       none (d ∷ ds) r = and_from (not (older_copy a c.cell.serial d)) (none_of (older_copy a c.cell.serial) ds) (not_from_false (older_copy a c.cell.serial d) (go (eqb d.address a) refl)) (none ds r.1)
         where
@@ -203,7 +203,7 @@ module _ (a : ℕ) where
   abbrev Read : List StaleCopy → ℕ → StaleCopy → List StaleCopy → Type 0
   Read cs s c left = (oldest (exact_copy a s) cs ≡ Some c) × (without (older_copy a s) cs ≡ left)
 
-  read_here : (c : StaleCopy) (cs : List StaleCopy) → c.address ≡ a → All (Rises c) cs → Read (c ∷ cs) c.cell.serial c (c ∷ cs)
+  read_here : (c : StaleCopy) (cs : List StaleCopy) → c.address ≡ a → AllByRecursion (Rises c) cs → Read (c ∷ cs) c.cell.serial c (c ∷ cs)
   read_here c cs at rises =
       let s = c.cell.serial in
       let t = eq-eqb c.address a at in (
@@ -212,7 +212,7 @@ module _ (a : ℕ) where
             ∙ ap (λ l. c ∷ l) (none_older c cs at rises),
       )
 
-  read_older : (d : StaleCopy) (cs : List StaleCopy) (s : ℕ) (c : StaleCopy) (left : List StaleCopy) → d.address ≡ a → All (Rises d) cs → Read cs s c left → Read (d ∷ cs) s c left
+  read_older : (d : StaleCopy) (cs : List StaleCopy) (s : ℕ) (c : StaleCopy) (left : List StaleCopy) → d.address ≡ a → AllByRecursion (Rises d) cs → Read cs s c left → Read (d ∷ cs) s c left
   read_older d cs s c left at rises r =
       let p = and_parts (eqb c.address a) (eqb c.cell.serial s) (oldest_passes (exact_copy a s) cs c r.0) in
       let l : d.cell.serial < c.cell.serial = all_oldest (exact_copy a s) (Rises d) cs c rises r.0 (at ∙ sym (eqb-true c.address a p.0)) in

@@ -1,6 +1,6 @@
 -- Every call keeps what the four machines keep true.
 use Rattle.std.proofs.Common.{◌≡◌, ℕ, ◌+◌, ◌<◌, ◌≤◌, Bool, true, false, cond, not, ◌&&◌, ◌||◌, eqb, ltb, List, [], ◌∷◌, ◌++◌, length, Some, sym, refl, ap, ◌∙◌, subst, arith}
-use Rattle.std.specs.List.{AllByRecursion as All}
+use Rattle.std.specs.List.{AllByRecursion}
 use Rattle.std.proofs.lemmas.List.{length_push, nil_from_length}
 use Rattle.std.proofs.lemmas.Bool.{and_parts, and_from, ltb-true, lt-ltb, eqb-true, eqb-false, eq-eqb, ne_eqb, both_ways}
 use Rattle.model.specs.Lists.{upd, none_of, oldest, without_oldest, without, Pairs}
@@ -228,19 +228,19 @@ module _ (k : ℕ) (h : Held) (g : Good k h) where
 -- ## In the words of the port
 
 module _ (cell : ℕ → Cell) (ws : List WaitingStore) where
-  overwrites_from : (cs : List StaleCopy) → stale_copies cell ws cs ≡ true → All (λ c. c.cell.serial < (cell c.address).serial) cs
+  overwrites_from : (cs : List StaleCopy) → stale_copies cell ws cs ≡ true → AllByRecursion (λ c. c.cell.serial < (cell c.address).serial) cs
   overwrites_from [] h = tt
   overwrites_from (c ∷ cs) h =
       let f = first cell ws c cs h in
       (ltb-true c.cell.serial (cell c.address).serial (and_parts (ltb c.cell.serial (cell c.address).serial) (none_of (store_at c.address) ws) f.stale).0, overwrites_from cs f.rest)
 
-  apart_from : (cs : List StaleCopy) → stale_copies cell ws cs ≡ true → All (λ c. none_of (store_at c.address) ws ≡ true) cs
+  apart_from : (cs : List StaleCopy) → stale_copies cell ws cs ≡ true → AllByRecursion (λ c. none_of (store_at c.address) ws ≡ true) cs
   apart_from [] h = tt
   apart_from (c ∷ cs) h =
       let f = first cell ws c cs h in
       ((and_parts (ltb c.cell.serial (cell c.address).serial) (none_of (store_at c.address) ws) f.stale).1, apart_from cs f.rest)
 
-  above_from : (c : StaleCopy) (cs : List StaleCopy) → all_of (fresher c) cs ≡ true → All (λ d. c.address ≡ d.address → c.cell.serial < d.cell.serial) cs
+  above_from : (c : StaleCopy) (cs : List StaleCopy) → all_of (fresher c) cs ≡ true → AllByRecursion (λ d. c.address ≡ d.address → c.cell.serial < d.cell.serial) cs
   above_from c [] h = tt
   above_from c (d ∷ cs) h = (above (and_parts (fresher c d) (all_of (fresher c) cs) h).0, above_from c cs (and_parts (fresher c d) (all_of (fresher c) cs) h).1)
     where

@@ -1,6 +1,6 @@
 -- Lists whose oldest element stands first: searches and removals by a test of the elements.
 use Rattle.std.specs.Prelude.{◌≡◌, ℕ, zero, suc, ◌+◌, Bool, true, cond, not, ◌&&◌, List, [], ◌∷◌, Some, None, Option, ◌==◌}
-use Rattle.std.specs.List.{AllByRecursion as All}
+use Rattle.std.specs.List.{AllByRecursion}
 
 -- f, but v at k
 abbrev pub upd : {A : Type 0} → (ℕ → A) → ℕ → A → ℕ → A
@@ -47,4 +47,4 @@ without test (x ∷ xs) = cond (test x) (without test xs) (x ∷ without test xs
 -- R x y wherever x stands before y
 abbrev pub Pairs : {T : Type 0} → (T → T → Type 0) → List T → Type 0
 Pairs R [] = Unit {0}
-Pairs R (x ∷ xs) = All (R x) xs × Pairs R xs
+Pairs R (x ∷ xs) = AllByRecursion (R x) xs × Pairs R xs

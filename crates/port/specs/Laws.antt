@@ -1,6 +1,6 @@
 -- What is known of every kind of machine: the meaning of the port, the bounds of what it may choose, and the laws that tie its ordering table to what it does.
 use Rattle.std.specs.Prelude.{◌≡◌, ℕ, ◌<◌, ◌≤◌, Bool, true, false, not, ◌||◌, List, [], ◌∷◌, Some, None, Option}
-use Rattle.std.specs.List.{AllByRecursion as All}
+use Rattle.std.specs.List.{AllByRecursion}
 use Rattle.model.specs.Lists.{none_of, Pairs}
 use Rattle.model.specs.Memory.{initial_cell}
 use Rattle.model.specs.declared.fault.Refusal.{Refusal}
@@ -20,9 +20,9 @@ NoneAt a ws = none_of (store_at a) ws ≡ true
 -- what every machine holds, at every moment
 pub record Sound (h : Held) : Type 0 where
   -- a copy is of an overwritten cell
-  pub overwrites : (p : ℕ) → All (λ c. c.cell.serial < (h.cell c.address).serial) (h.copies p)
+  pub overwrites : (p : ℕ) → AllByRecursion (λ c. c.cell.serial < (h.cell c.address).serial) (h.copies p)
   -- no copy stands where its holder's own store waits
-  pub apart : (p : ℕ) → All (λ c. NoneAt c.address (h.waits p)) (h.copies p)
+  pub apart : (p : ℕ) → AllByRecursion (λ c. NoneAt c.address (h.waits p)) (h.copies p)
   -- the serials of one holder and address rise
   pub rising : (p : ℕ) → Pairs (λ c d. c.address ≡ d.address → c.cell.serial < d.cell.serial) (h.copies p)
   -- all serials and waiting stores add up to at most 64

@@ -8,6 +8,6 @@ pub returns : goal.returns
 returns c =
     let bs = c.args.bytes.now in
     let four : length bs ≡ 4 = omega (arith, ltb-true, ltb-false) in
-    let v : c.of-fields.result ≡ decoded bs =
-    c.of-fields.ensures ∙ sym (cond-true (eqb (length bs) 4) _ _ (eq-eqb (length bs) 4 four)) in
-    record { value = v; exact = decodes bs c.of-fields.result v }
+    let v : c.of_fields.result ≡ decoded bs =
+    c.of_fields.ensures ∙ sym (cond-true (eqb (length bs) 4) _ _ (eq-eqb (length bs) 4 four)) in
+    record { value = v; exact = decodes bs c.of_fields.result v }
