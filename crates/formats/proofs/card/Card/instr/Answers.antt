@@ -11,7 +11,7 @@ pub returns-then-place-thread-len : goal.returns-then-place-thread-len
 returns-then-place-thread-len c =
     let card = c.args.self.now in
     record {
-      value = sym (slice_get_past ((program card.bytes.now).thread c.args.processor) c.args.place (omega (arith, c.thread-len.ensures.value)));
+      value = sym (slice_get_past ((program card.bytes.now).thread c.args.processor) c.args.place (omega (arith, c.thread_len.ensures.value)));
       runs = tt;
     }
 
@@ -19,7 +19,7 @@ pub slice-bounds-decode-end : goal.slice-bounds-decode-end
 slice-bounds-decode-end c =
     let card = c.args.self.now in
     let bs = card.bytes.now in
-    let inside : c.args.place < length ((program bs).thread c.args.processor) = omega (arith, c.thread-len.ensures.value) in
+    let inside : c.args.place < length ((program bs).thread c.args.processor) = omega (arith, c.thread_len.ensures.value) in
     let has = thread_has bs card.ok c.args.processor c.args.place inside in
     let end : offset_at bs c.args.processor + 4 * c.args.place + 4 ≤ length bs = has.2 in
     search rules
@@ -28,10 +28,10 @@ pub returns : goal.returns
 returns c =
     let card = c.args.self.now in
     let bs = card.bytes.now in
-    let inside : c.args.place < length ((program bs).thread c.args.processor) = omega (arith, c.thread-len.ensures.value) in
+    let inside : c.args.place < length ((program bs).thread c.args.processor) = omega (arith, c.thread_len.ensures.value) in
     let has = thread_has bs card.ok c.args.processor c.args.place inside in
     let is =
     c.decode.ensures.value
-    ∙ (ap (λ byte. decoded (between byte (byte + 4) bs)) c.instr-byte-at.ensures.value
+    ∙ (ap (λ byte. decoded (between byte (byte + 4) bs)) c.instr_byte-at.ensures.value
     ∙ thread_nth bs card.ok c.args.processor has.0 c.args.place has.1) in
     record { value = is; runs = thread_runs bs card.ok c.args.processor c.args.place inside c.decode.result is }

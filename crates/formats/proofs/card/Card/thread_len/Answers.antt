@@ -10,6 +10,6 @@ returns c =
     let there : c.args.processor < processors_in bs = omega arith in
     let few = (rules bs card.ok).counts c.args.processor there in
     record {
-      value = c.count-at.ensures ∙ thread_length bs card.ok c.args.processor there;
-      bound = omega (arith, c.count-at.ensures);
+      value = c.count_at.ensures ∙ thread_length bs card.ok c.args.processor there;
+      bound = omega (arith, c.count_at.ensures);
     }

@@ -10,7 +10,7 @@ returns-in-Some c =
 pub loop-processor-preserved : goal.loop-processor-preserved
 loop-processor-preserved c =
     let bs = c.args.bytes.now in
-    passed (instrs_fault bs) c.loop-processor.processor (processors_in bs) c.loop-processor-test.true c.in-default.ensures c.loop-processor.invariant
+    passed (instrs_fault bs) c.loop-processor.processor (processors_in bs) c.loop-processor-test.true c.in_default.ensures c.loop-processor.invariant
 
 pub thread-instrs-fault-requires : goal.thread-instrs-fault-requires
 thread-instrs-fault-requires c =

@@ -10,4 +10,4 @@ returns-in-Some c =
 pub loop-processor-preserved : goal.loop-processor-preserved
 loop-processor-preserved c =
     let bs = c.args.bytes.now in
-    passed (thread_fault bs) c.loop-processor.processor (processors_in bs) c.loop-processor-test.true c.in-default.ensures c.loop-processor.invariant
+    passed (thread_fault bs) c.loop-processor.processor (processors_in bs) c.loop-processor-test.true c.in_default.ensures c.loop-processor.invariant

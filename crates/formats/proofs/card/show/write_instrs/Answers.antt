@@ -9,14 +9,14 @@ pub loop-place-preserved : goal.loop-place-preserved
 loop-place-preserved g c plain =
     line_written instr_text g.W.Write.write_str_gives c.args.f.now ((program_of c.args.card.now).thread c.args.processor) c.loop-place.place-counter c.in-Some.instr
     c.loop-place.f _ (sym c.in-Some.ensures.value) (c.loop-place.invariant plain)
-    (λ flat. c.writeln.ensures.writes flat (ap is_ok c.in-ok-writeln.was))
+    (λ flat. c.writeln.ensures.writes flat (ap is_ok c.in_ok-writeln.was))
 
 pub returns : goal.returns
 returns g c plain ok =
     lines_written instr_text g.W.Write.write_str_gives c.args.f.now ((program_of c.args.card.now).thread c.args.processor) c.loop-place.place-counter c.loop-place.f
-    (omega (arith, c.thread-len-place-end.ensures.value)) (c.loop-place.invariant plain)
+    (omega (arith, c.thread_len-place-end.ensures.value)) (c.loop-place.invariant plain)
 
 pub unreachable-requires : goal.unreachable-requires
 unreachable-requires g c =
     let thread = (program_of c.args.card.now).thread c.args.processor in
-    has_item instr_text thread c.loop-place.place-counter Commit (omega (arith, c.thread-len-place-end.ensures.value)) c.in-default.ensures.value
+    has_item instr_text thread c.loop-place.place-counter Commit (omega (arith, c.thread_len-place-end.ensures.value)) c.in_default.ensures.value

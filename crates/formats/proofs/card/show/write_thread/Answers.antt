@@ -7,7 +7,7 @@ use Rattle.formats.proofs.card.show.write_thread.Goals as goal
 
 pub returns : goal.returns
 returns g c plain ok =
-    let title = c.writeln.ensures.writes plain (ap is_ok c.in-ok-writeln.was) in
+    let title = c.writeln.ensures.writes plain (ap is_ok c.in_ok-writeln.was) in
     has_written_append g.W.Write.write_str_gives c.args.f.now (thread_title c.args.processor) c.writeln.new.self
-    (numbered instr_text 0 ((program_of c.args.card.now).thread c.args.processor)) c.write-instrs.new.f
-    title (c.write-instrs.ensures title.plain ok)
+    (numbered instr_text 0 ((program_of c.args.card.now).thread c.args.processor)) c.write_instrs.new.f
+    title (c.write_instrs.ensures title.plain ok)

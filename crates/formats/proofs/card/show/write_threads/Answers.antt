@@ -12,8 +12,8 @@ loop-processor-preserved g c plain =
     let took = g.W.Write.write_str_gives in
     let f = c.args.f.now in
     let so_far = c.loop-processor.invariant plain in
-    has_written_of_eq took f (threads_text prog p ++ thread_text prog p) (threads_text prog (p + 1)) c.write-thread.new.f (threads_more prog p)
-    (has_written_append took f (threads_text prog p) c.loop-processor.f (thread_text prog p) c.write-thread.new.f so_far
+    has_written_of_eq took f (threads_text prog p ++ thread_text prog p) (threads_text prog (p + 1)) c.write_thread.new.f (threads_more prog p)
+    (has_written_append took f (threads_text prog p) c.loop-processor.f (thread_text prog p) c.write_thread.new.f so_far
     (c.in-ok-write-thread.ensures so_far.plain (refl {a = true})))
 
 pub returns : goal.returns

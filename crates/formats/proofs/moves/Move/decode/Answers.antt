@@ -8,6 +8,6 @@ pub returns : goal.returns
 returns c =
     let bs = c.args.bytes.now in
     let three : length bs ≡ 3 = omega (arith, ltb-true, ltb-false) in
-    let v : c.of-fields.result ≡ move_decoded bs =
-    c.of-fields.ensures ∙ sym (cond-true (eqb (length bs) 3) _ _ (eq-eqb (length bs) 3 three)) in
-    record { value = v; exact = decodes_move bs c.of-fields.result v }
+    let v : c.of_fields.result ≡ move_decoded bs =
+    c.of_fields.ensures ∙ sym (cond-true (eqb (length bs) 3) _ _ (eq-eqb (length bs) 3 three)) in
+    record { value = v; exact = decodes_move bs c.of_fields.result v }

@@ -11,7 +11,7 @@ returns-clause-writes g c plain ok =
     let f = c.args.f.now in
     let same = ap (λ p. program_title p c.addresses.result) c.processors.ensures.value ∙ ap (program_title prog.processors) c.addresses.ensures.value in
     let title =
-    has_written_of_eq took f (program_title c.processors.result c.addresses.result) (program_title prog.processors prog.addresses) c.write-title.new.f same
-    (c.in-ok-write-title.ensures plain (refl {a = true})) in
-    has_written_append took f (program_title prog.processors prog.addresses) c.write-title.new.f (threads_text prog prog.processors) c.write-threads.new.f
-    title (c.write-threads.ensures title.plain ok)
+    has_written_of_eq took f (program_title c.processors.result c.addresses.result) (program_title prog.processors prog.addresses) c.write_title.new.f same
+    (c.in_ok-write_title.ensures plain (refl {a = true})) in
+    has_written_append took f (program_title prog.processors prog.addresses) c.write_title.new.f (threads_text prog prog.processors) c.write_threads.new.f
+    title (c.write_threads.ensures title.plain ok)
