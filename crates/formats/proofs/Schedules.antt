@@ -10,13 +10,13 @@ use Rattle.formats.proofs.MoveDecoding.{decodes_move}
 use Rattle.formats.proofs.Records.{AllThere, records_length, records_nth}
 use Rattle.formats.proofs.SheetAcceptance.{faultless_keeps}
 
-pub rules : (bs : List ℕ) → is_some (sheet_fault bs) ≡ false → SheetRules bs
-rules bs ok = faultless_keeps bs (no_fault (sheet_fault bs) ok)
+pub keeps_rules : (bs : List ℕ) → is_some (sheet_fault bs) ≡ false → SheetRules bs
+keeps_rules bs ok = faultless_keeps bs (no_fault (sheet_fault bs) ok)
 
 module _ (bs : List ℕ) (ok : is_some (sheet_fault bs) ≡ false) where
   all_there : AllThere move_decoded 3 bs 2 (moves_in bs)
   all_there i l =
-      let m = (rules bs ok).moves i l in
+      let m = (keeps_rules bs ok).moves i l in
       (m.0, (decodes_move (move_bytes bs i) (move_decoded (move_bytes bs i)) refl m.0).1 m.1)
 
   pub moves_length : moves_in bs ≡ length (schedule bs).moves

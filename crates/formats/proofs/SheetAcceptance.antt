@@ -1,5 +1,5 @@
 -- A sheet has no fault exactly where it keeps every rule.
-use Rattle.std.proofs.Common.{◌≡◌, ℕ, ◌+◌, ◌*◌, true, false, leb, List, length, is_some, Some, None, Option, Result, refl, ap}
+use Rattle.std.proofs.Common.{◌≡◌, ℕ, ◌+◌, ◌*◌, true, leb, List, length, is_some, Some, None, Option, Result, refl, ap}
 use Rattle.std.proofs.lemmas.Bool.{false≢true, le-leb, leb-true}
 use Rattle.model.specs.Kinds.{DecodesKind, kind_numbered}
 use Rattle.model.specs.declared.fault.Fault.{Fault}

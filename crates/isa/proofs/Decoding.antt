@@ -1,5 +1,5 @@
 -- Bytes are decoded as an instruction exactly where they stand for it.
-use Rattle.std.proofs.Common.{◌≡◌, ℕ, suc, ◌<◌, Bool, true, false, cond, ◌&&◌, eqb, ◌⊎◌, List, [], ◌∷◌, length, Some, None, Option, sym, refl, ap, ◌∙◌, subst, ⊎_elim, arith}
+use Rattle.std.proofs.Common.{◌≡◌, ℕ, suc, ◌<◌, Bool, true, false, cond, ◌&&◌, eqb, List, [], ◌∷◌, length, Some, None, Option, sym, refl, ap, ◌∙◌, subst, ⊎_elim, arith}
 use Rattle.std.proofs.lemmas.Bool.{and_from, and_parts, cases_Bool, cond-true, cond-false, eqb-true, lt-ltb, ltb-true, ne_eqb}
 use Rattle.isa.specs.Fields.{unused_clear}
 use Rattle.isa.specs.Instrs.{StandsFor, RegistersExist, Decodes, decoded, layout, of_fields, of_kind, is_register}

@@ -7,16 +7,16 @@ use Rattle.formats.specs.Programs.{program}
 use Rattle.formats.proofs.Threads.{thread_has, thread_nth, thread_runs}
 use Rattle.formats.proofs.card.Card.instr.Goals as goal
 
-pub returns-then-place-thread-len : goal.returns-then-place-thread-len
-returns-then-place-thread-len c =
+pub returns-then-place-thread_len : goal.returns-then-place-thread_len
+returns-then-place-thread_len c =
     let card = c.args.self.now in
     record {
       value = sym (slice_get_past ((program card.bytes.now).thread c.args.processor) c.args.place (omega (arith, c.thread_len.ensures.value)));
       runs = tt;
     }
 
-pub slice-bounds-decode-end : goal.slice-bounds-decode-end
-slice-bounds-decode-end c =
+pub slice_bounds-decode-end : goal.slice_bounds-decode-end
+slice_bounds-decode-end c =
     let card = c.args.self.now in
     let bs = card.bytes.now in
     let inside : c.args.place < length ((program bs).thread c.args.processor) = omega (arith, c.thread_len.ensures.value) in

@@ -12,6 +12,6 @@ loop-processor-preserved c =
     let bs = c.args.bytes.now in
     passed (instrs_fault bs) c.loop-processor.processor (processors_in bs) c.loop-processor-test.true c.in_default.ensures c.loop-processor.invariant
 
-pub thread-instrs-fault-requires : goal.thread-instrs-fault-requires
-thread-instrs-fault-requires c =
+pub thread_instrs_fault-requires : goal.thread_instrs_fault-requires
+thread_instrs_fault-requires c =
     (c.loop-processor-test.true, c.requires.1 c.loop-processor.processor c.loop-processor-test.true)

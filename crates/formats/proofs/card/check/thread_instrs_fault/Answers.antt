@@ -7,10 +7,10 @@ pub returns-in-Some : goal.returns-in-Some
 returns-in-Some c =
     let bs = c.args.bytes.now in
     let p = c.args.processor in
-    found (instr_fault bs p) c.loop-index.index (count_at bs p) c.in-Some.fault (omega (arith, c.count-at-index-end.ensures)) c.in-Some.ensures c.loop-index.invariant
+    found (instr_fault bs p) c.loop-index.index (count_at bs p) c.in-Some.fault (omega (arith, c.count_at-index-end.ensures)) c.in-Some.ensures c.loop-index.invariant
 
 pub loop-index-preserved : goal.loop-index-preserved
 loop-index-preserved c =
     let bs = c.args.bytes.now in
     let p = c.args.processor in
-    passed (instr_fault bs p) c.loop-index.index (count_at bs p) (omega (arith, c.count-at-index-end.ensures)) c.in-default.ensures c.loop-index.invariant
+    passed (instr_fault bs p) c.loop-index.index (count_at bs p) (omega (arith, c.count_at-index-end.ensures)) c.in_default.ensures c.loop-index.invariant

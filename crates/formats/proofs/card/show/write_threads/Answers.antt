@@ -14,7 +14,7 @@ loop-processor-preserved g c plain =
     let so_far = c.loop-processor.invariant plain in
     has_written_of_eq took f (threads_text prog p ++ thread_text prog p) (threads_text prog (p + 1)) c.write_thread.new.f (threads_more prog p)
     (has_written_append took f (threads_text prog p) c.loop-processor.f (thread_text prog p) c.write_thread.new.f so_far
-    (c.in-ok-write-thread.ensures so_far.plain (refl {a = true})))
+    (c.in_ok-write_thread.ensures so_far.plain (refl {a = true})))
 
 pub returns : goal.returns
 returns g c plain ok =

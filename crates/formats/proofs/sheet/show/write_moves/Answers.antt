@@ -9,7 +9,7 @@ pub loop-index-preserved : goal.loop-index-preserved
 loop-index-preserved g c plain =
     line_written move_text g.W.Write.write_str_gives c.args.f.now (schedule_of c.args.sheet.now).moves c.loop-index.index-counter c.in-Some.next
     c.loop-index.f _ (sym c.in-Some.ensures) (c.loop-index.invariant plain)
-    (λ flat. c.writeln.ensures.writes flat (ap is_ok c.in-ok-writeln.was))
+    (λ flat. c.writeln.ensures.writes flat (ap is_ok c.in_ok-writeln.was))
 
 pub returns : goal.returns
 returns g c plain ok =
@@ -19,4 +19,4 @@ returns g c plain ok =
 pub unreachable-requires : goal.unreachable-requires
 unreachable-requires g c =
     let moves = (schedule_of c.args.sheet.now).moves in
-    has_item move_text moves c.loop-index.index-counter (Step 0) (omega (arith, c.len-index-end.ensures)) c.in-default.ensures
+    has_item move_text moves c.loop-index.index-counter (Step 0) (omega (arith, c.len-index-end.ensures)) c.in_default.ensures

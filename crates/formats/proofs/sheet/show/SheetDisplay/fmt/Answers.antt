@@ -12,7 +12,7 @@ returns-clause-writes g c plain ok =
     let f = c.args.f.now in
     let same = ap (λ k. schedule_title k c.len.result) c.kind.ensures ∙ ap (schedule_title plan.kind) c.len.ensures in
     let title =
-    has_written_of_eq took f (schedule_title c.kind.result c.len.result) (schedule_title plan.kind (length plan.moves)) c.write-title.new.f same
-    (c.in-ok-write-title.ensures plain (refl {a = true})) in
-    has_written_append took f (schedule_title plan.kind (length plan.moves)) c.write-title.new.f (numbered move_text 0 plan.moves) c.write-moves.new.f
-    title (c.write-moves.ensures title.plain ok)
+    has_written_of_eq took f (schedule_title c.kind.result c.len.result) (schedule_title plan.kind (length plan.moves)) c.write_title.new.f same
+    (c.in_ok-write_title.ensures plain (refl {a = true})) in
+    has_written_append took f (schedule_title plan.kind (length plan.moves)) c.write_title.new.f (numbered move_text 0 plan.moves) c.write_moves.new.f
+    title (c.write_moves.ensures title.plain ok)
