@@ -8,10 +8,10 @@ loop-i-preserved c =
     let before = vec_items c.loop-i.bytes in
     let i = c.loop-i.i in
     let text = c.args.text.now in
-    let byte = 16 * c.digit-of.result + c.digit-of-in-loop-i.result in
-    let e = c.in-ok-push.ensures.items in
+    let byte = 16 * c.digit_of.result + c.digit_of-in-loop-i.result in
+    let e = c.in_ok-push.ensures.items in
     let long = length_push before byte in
-    let here : byte ≡ 16 * digit_of (get_or text (2 * i) 0) + digit_of (get_or text (2 * i + 1) 0) = omega (arith, c.digit-of.ensures.value, c.digit-of-in-loop-i.ensures.value) in (
+    let here : byte ≡ 16 * digit_of (get_or text (2 * i) 0) + digit_of (get_or text (2 * i + 1) 0) = omega (arith, c.digit_of.ensures.value, c.digit_of-in-loop-i.ensures.value) in (
       ap length e ∙ (long ∙ ap (λ n. n + 1) c.loop-i.invariant.0),
       below_more _ _
           (λ k h.
