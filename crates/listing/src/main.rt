@@ -8,16 +8,17 @@ mod report;
 use anyhow::anyhow;
 use files::read_at_most;
 use report::report;
+use std::process::ExitCode;
 
 // How much of each file is read.
 const LIMIT: usize = 1024;
 
-fn main(rt: HostRuntime) -> anyhow::Result<()> {
+fn main(rt: HostRuntime) -> ExitCode {
     match run(&rt) {
-        Ok(()) => Ok(()),
+        Ok(()) => ExitCode::SUCCESS,
         Err(e) => {
-            eprintln!(rt; "listing: {e}")?;
-            Err(e)
+            let _ = eprintln!(rt; "listing: {e}");
+            ExitCode::FAILURE
         }
     }
 }
