@@ -7,8 +7,8 @@ use crate::query::Query;
 
 // The place of the oldest that the query picks.
 pub fn oldest<T, Q: Query<T>>(items: &[T], query: &Q) -> Option<usize>
-    ensures value { result ≡ oldest_from (picks query.now) 0 items.now }
-    ensures finds { Finds (picks query.now) items.now result }
+    ensures value { result ≡ oldest_from (Q.picks query.now) 0 items.now }
+    ensures finds { Finds (Q.picks query.now) items.now result }
 {
     for i in 0..items.len() {
         if query.hits(&items[i]) {
@@ -20,14 +20,14 @@ pub fn oldest<T, Q: Query<T>>(items: &[T], query: &Q) -> Option<usize>
 
 // Whether the query picks any.
 pub fn any<T, Q: Query<T>>(items: &[T], query: &Q) -> bool
-    ensures { result ≡ not (none_of (picks query.now) items.now) }
+    ensures { result ≡ not (none_of (Q.picks query.now) items.now) }
 {
     oldest(items, query).is_some()
 }
 
 // The youngest that the query picks.
 pub fn youngest<T: Copy, Q: Query<T>>(items: &[T], query: &Q) -> Option<T>
-    ensures { result ≡ youngest (picks query.now) items.now }
+    ensures { result ≡ youngest (Q.picks query.now) items.now }
 {
     let mut found = None;
     for item in items {
@@ -38,7 +38,7 @@ pub fn youngest<T: Copy, Q: Query<T>>(items: &[T], query: &Q) -> Option<T>
 
 // The item if the query picks it, and else what was found before.
 fn younger<T: Copy, Q: Query<T>>(before: Option<T>, item: &T, query: &Q) -> Option<T>
-    ensures { result ≡ (if picks query.now item.now then Some item.now else before) }
+    ensures { result ≡ (if Q.picks query.now item.now then Some item.now else before) }
 {
     if query.hits(item) {
         Some(*item)
@@ -49,8 +49,8 @@ fn younger<T: Copy, Q: Query<T>>(before: Option<T>, item: &T, query: &Q) -> Opti
 
 // The oldest that the query picks goes out.
 pub fn remove_oldest<T, Q: Query<T>>(items: &mut Vec<T>, query: &Q) -> Option<T>
-    ensures value { result ≡ oldest (picks query.now) items.old.items }
-    ensures after { items.new.items ≡ without_oldest (picks query.now) items.old.items }
+    ensures value { result ≡ oldest (Q.picks query.now) items.old.items }
+    ensures after { items.new.items ≡ without_oldest (Q.picks query.now) items.old.items }
     ensures capacity { vec_capacity items.new ≡ vec_capacity items.old }
 {
     match oldest(items.as_slice(), query) {
@@ -61,7 +61,7 @@ pub fn remove_oldest<T, Q: Query<T>>(items: &mut Vec<T>, query: &Q) -> Option<T>
 
 // All that the query picks go out, and the others keep their order.
 pub fn remove_all<T: Drop, Q: Query<T>>(items: &mut Vec<T>, query: &Q)
-    ensures after { items.new.items ≡ without (picks query.now) items.old.items }
+    ensures after { items.new.items ≡ without (Q.picks query.now) items.old.items }
     ensures capacity { vec_capacity items.new ≡ vec_capacity items.old }
 {
     while let Some(i) = oldest(items.as_slice(), query) {

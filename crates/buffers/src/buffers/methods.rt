@@ -78,8 +78,8 @@ impl<T> Buffers<T> {
 
     // The oldest that the query picks goes out of a processor's buffer.
     pub fn remove_oldest<Q: Query<T>>(&mut self, processor: u8, query: &Q) -> Option<T>
-        ensures value { result ≡ oldest (Q.Query.picks query.now) (buffer_of self.old processor) }
-        ensures after { buffer_of self.new ≡ upd (buffer_of self.old) processor (without_oldest (Q.Query.picks query.now) (buffer_of self.old processor)) }
+        ensures value { result ≡ oldest (Q.picks query.now) (buffer_of self.old processor) }
+        ensures after { buffer_of self.new ≡ upd (buffer_of self.old) processor (without_oldest (Q.picks query.now) (buffer_of self.old processor)) }
     {
         match processor {
             0 => search::remove_oldest(&mut self.first, query),
@@ -94,7 +94,7 @@ impl<T> Buffers<T> {
     pub fn remove_all<Q: Query<T>>(&mut self, processor: u8, query: &Q)
     where
         T: Drop,
-        ensures { buffer_of self.new ≡ upd (buffer_of self.old) processor (without (Q.Query.picks query.now) (buffer_of self.old processor)) }
+        ensures { buffer_of self.new ≡ upd (buffer_of self.old) processor (without (Q.picks query.now) (buffer_of self.old processor)) }
     {
         match processor {
             0 => search::remove_all(&mut self.first, query),
