@@ -1,13 +1,12 @@
 -- Lemmas on what a machine holds: sums, and a direct landing as a put with its landing.
-use Rattle.std.proofs.Common.{◌≡◌, ℕ, ◌+◌, ◌<◌, ◌≤◌, Bool, true, false, cond, not, ◌&&◌, eqb, ltb, List, [], ◌∷◌, ◌++◌, length, Some, None, Option, sym, refl, ap, ◌∙◌, subst, ap₂, arith}
+use Rattle.std.proofs.Common.{◌≡◌, ℕ, ◌+◌, ◌<◌, Bool, true, cond, not, ◌&&◌, eqb, ltb, List, [], ◌∷◌, ◌++◌, length, Some, None, sym, refl, ap, ◌∙◌, arith}
 use mathlib.Core.Path.{fun_ext}
 use Rattle.std.proofs.lemmas.List.{length_push}
-use Rattle.std.proofs.lemmas.Bool.{and_parts, and_from, cond-true, cond-false, both_ways, eq-eqb, eqb-false, false≢true, lt-ltb, not-true}
+use Rattle.std.proofs.lemmas.Bool.{and_parts, and_from, eq-eqb, eqb-false, lt-ltb, not-true}
 use Rattle.model.specs.Lists.{upd, none_of, oldest, without_oldest, without}
 use Rattle.model.proofs.Lists.{upd_all, upd_same, upd_other, sum_upd, length_without_oldest, without_pushed}
 use Rattle.model.specs.declared.fault.Refusal.TheVariants.{NoCore, OffMap}
 use Rattle.model.specs.declared.memory.Cell.{Cell}
-use Rattle.model.specs.declared.memory.StaleCopy.{StaleCopy}
 use Rattle.model.specs.declared.memory.WaitingStore.{WaitingStore}
 use Rattle.port.specs.Calls.{Outcome, unless, map_refusal}
 use Rattle.port.specs.Holdings.{Held, serials, pending, total, store_at, copy_at, landed, overwritten, may_keep, keeping, after_put, after_direct, after_landing}

@@ -1,5 +1,5 @@
 -- What each call of the port answers and leaves held: one value, by what is held and what the kind chooses.
-use Rattle.std.specs.Prelude.{◌≡◌, ℕ, Bool, true, false, cond, List, [], ◌∷◌, length, Some, None, Ok, Err, Option, Result, ◌==◌, nat_lt}
+use Rattle.std.specs.Prelude.{◌≡◌, ℕ, Bool, true, false, cond, List, length, Some, None, Ok, Err, Option, Result, ◌==◌, nat_lt}
 use Rattle.std.specs.List.{slice_get}
 use Rattle.model.specs.Lists.{oldest}
 use Rattle.model.specs.declared.fault.Fault.{Fault}

@@ -5,7 +5,6 @@ use Rattle.model.specs.Lists.{none_of, Pairs}
 use Rattle.model.specs.Memory.{initial_cell}
 use Rattle.model.specs.declared.fault.Refusal.{Refusal}
 use Rattle.model.specs.declared.fault.Refusal.TheVariants.{Held as HeldBack}
-use Rattle.model.specs.declared.memory.StaleCopy.{StaleCopy}
 use Rattle.model.specs.declared.memory.WaitingStore.{WaitingStore}
 use Rattle.model.specs.declared.order.Order.{Order}
 use Rattle.model.specs.declared.order.Order.TheVariants.{Never, SameAddress, Always}
