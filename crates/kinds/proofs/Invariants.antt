@@ -8,7 +8,7 @@ use Rattle.model.specs.Memory.{initial_cell}
 use Rattle.model.specs.declared.memory.Cell.{Cell}
 use Rattle.model.specs.declared.memory.StaleCopy.{StaleCopy}
 use Rattle.model.specs.declared.memory.WaitingStore.{WaitingStore}
-use Rattle.model.proofs.Lists.{upd_all, upd_same, upd_other, length_without, length_without_oldest, none_left, none_pushed, oldest_pushed}
+use Rattle.model.proofs.Lists.{upd_all, upd_same, length_without, length_without_oldest, none_left, none_pushed, oldest_pushed}
 use Rattle.port.specs.Holdings.{Held, nothing_yet, serials, total, store_at, copy_at, landed, overwritten, may_keep, keeping, with_copies, after_put, after_direct, after_landing}
 use Rattle.port.specs.Laws.{Sound}
 use Rattle.port.proofs.Holdings.{serials_land, total_put, total_landing, direct_is_landing, may_still}

@@ -1,17 +1,15 @@
 -- The four kinds keep the laws, once for all of them.
-use Rattle.std.proofs.Common.{◌≡◌, ℕ, zero, suc, ◌≤◌, Bool, true, false, cond, not, ◌&&◌, eqb, leb, List, [], ◌∷◌, Some, None, Option, sym, refl, ap, ◌∙◌, arith}
+use Rattle.std.proofs.Common.{◌≡◌, ℕ, zero, suc, Bool, true, false, cond, not, ◌&&◌, eqb, leb, List, [], ◌∷◌, Some, None, sym, refl, ap, ◌∙◌, arith}
 use Rattle.std.proofs.lemmas.List.{nil_from_length}
 use Rattle.std.proofs.lemmas.Bool.{true≢false, false≢true, and_parts, not-true, eqb-true, eq-eqb, le-leb, leb-true}
 use Rattle.model.specs.Lists.{none_of}
 use Rattle.model.specs.Orders.{entry}
 use Rattle.model.specs.Tables.{AtLeast, strength, sc_table, tso_table, pso_table, wmm_table}
-use Rattle.model.specs.declared.fault.Refusal.{Refusal}
 use Rattle.model.specs.declared.fault.Refusal.TheVariants.{Held as HeldBack}
 use Rattle.model.specs.declared.line.LineKind.{LineKind}
 use Rattle.model.specs.declared.line.LineKind.TheVariants.{Load, Store, Reconcile, Commit}
 use Rattle.model.specs.declared.memory.WaitingStore.{WaitingStore}
 use Rattle.model.specs.declared.order.Table.{Table}
-use Rattle.port.specs.Calls.{Choice}
 use Rattle.port.specs.Holdings.{Held, store_at, may_keep}
 use Rattle.port.specs.Laws.{Own, Bounds, Progress, copyless, NoCopies, in_order, InOrder, bufferless, Direct}
 use Rattle.kinds.specs.Kinds.{table_of, lands_directly, lands_in_order, keeps_copies, behind, choice_of, Plain}

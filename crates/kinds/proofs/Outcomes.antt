@@ -1,11 +1,11 @@
 -- The outcomes of the calls of the four kinds, case by case.
-use Rattle.std.proofs.Common.{◌≡◌, ℕ, ◌<◌, true, false, cond, ◌&&◌, eqb, ltb, length, Some, None, Option, refl, ap, ◌∙◌}
+use Rattle.std.proofs.Common.{◌≡◌, ℕ, ◌<◌, true, false, cond, ◌&&◌, Some, None, ap, ◌∙◌}
 use Rattle.std.proofs.lemmas.Bool.{lt-ltb, ne_eqb}
 use Rattle.model.specs.Lists.{oldest}
 use Rattle.model.specs.declared.fault.Refusal.TheVariants.{Held as HeldBack, NoCopy, NoCore, NothingWaits, Spent}
 use Rattle.model.specs.declared.memory.StaleCopy.{StaleCopy}
 use Rattle.model.specs.declared.memory.WaitingStore.{WaitingStore}
-use Rattle.port.specs.Calls.{Outcome, gives, refuses, unless, fault, old_found, old_outcome, put_taken, put_outcome, landing_found, landing_outcome, reconcile_outcome, spent_refusal}
+use Rattle.port.specs.Calls.{gives, refuses, unless, fault, old_found, old_outcome, put_taken, put_outcome, landing_found, landing_outcome, reconcile_outcome, spent_refusal}
 use Rattle.port.specs.Holdings.{Held, total, store_at, exact_copy, cell_value, store_of, landed, shown, after_old, after_reconcile, after_put, after_direct, after_landing}
 use Rattle.port.specs.declared.stored.Stored.TheVariants.{Waiting, Landed}
 use Rattle.port.proofs.Holdings.{on_map}

@@ -1,5 +1,5 @@
 -- What the four machines keep true of all that they hold, as facts with one proof, so that they can stand in a type.
-use Rattle.std.specs.Prelude.{◌≡◌, ℕ, ◌≤◌, Bool, true, false, not, ◌&&◌, ◌||◌, List, [], ◌∷◌, length, ◌==◌, nat_lt}
+use Rattle.std.specs.Prelude.{◌≡◌, ℕ, ◌≤◌, Bool, true, not, ◌&&◌, ◌||◌, List, [], ◌∷◌, length, ◌==◌, nat_lt}
 use Rattle.model.specs.Lists.{none_of}
 use Rattle.model.specs.declared.memory.Cell.{Cell}
 use Rattle.model.specs.declared.memory.StaleCopy.{StaleCopy}
