@@ -16,7 +16,7 @@ use Rattle.port.specs.Holdings.{after_direct, after_landing, after_put, copy_at,
 use Rattle.machine.specs.Parts.{cells_of, held_in}
 use Rattle.machine.specs.View.{held_of}
 use Rattle.machine.specs.declared.buffered.Buffered.{Buffered}
-use Rattle.machine.specs.ValuesLemmas.{Facts, facts, good_of, room_there, same_held}
+use Rattle.machine.proofs.Values.{Facts, facts, good_of, room_there, same_held}
 
 module _ (k : ℕ) (m : Buffered k) where
   -- ## Fewer copies

@@ -18,7 +18,8 @@ use Rattle.port.specs.declared.stored.Stored.TheVariants.{Waiting, Landed}
 use Rattle.port.proofs.Holdings.{on_map}
 use Rattle.machine.specs.View.{held_of}
 use Rattle.machine.specs.declared.buffered.Buffered.{Buffered}
-use Rattle.machine.specs.ValuesLemmas.{carried, sound_value}
+use Rattle.machine.proofs.Values.{carried}
+use Rattle.machine.specs.Soundness.{sound_value}
 
 -- an accepted call, and a refused one, as the port has them
 abbrev Accepted : {X : Type 0} → Outcome X → X → Held → Type 0

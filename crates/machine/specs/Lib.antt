@@ -1,3 +1,3 @@
 pub mod Parts
 pub mod View
-pub mod ValuesLemmas
+pub mod Soundness

@@ -1,6 +1,6 @@
 // The four kinds: a number, an ordering table, and the laws.
 ghost use Rattle.kinds.specs.Kinds.{table_of};
-ghost use Rattle.machine.specs.ValuesLemmas.{sound_value};
+ghost use Rattle.machine.specs.Soundness.{sound_value};
 ghost use Rattle.kinds.proofs.Laws.{bounds_of, progress_of, floor_of, copyless_of, ordered_of, direct_of};
 ghost use Rattle.machine.specs.View.{held_of};
 

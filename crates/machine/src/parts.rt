@@ -68,7 +68,7 @@ pub fn pending(waiting: &Buffers<WaitingStore>) -> usize
 
 // The oldest that the query picks.
 pub fn first<T: Copy, Q: Query<T>>(items: &[T], query: &Q) -> Option<T>
-    ensures { result ≡ oldest (picks query.now) items.now }
+    ensures { result ≡ oldest (Q.picks query.now) items.now }
 {
     match oldest(items, query) {
         Some(i) => Some(items[i]),

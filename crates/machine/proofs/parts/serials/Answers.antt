@@ -1,4 +1,4 @@
-use Rattle.std.proofs.Common.{◌≡◌, ℕ, ◌+◌, sym, ap, ◌∙◌, add-one, rules}
+use Rattle.std.proofs.Common.{ℕ, ◌+◌, sym, ap, ◌∙◌, add-one, rules}
 use Rattle.model.specs.Lists.{sum_to}
 use Rattle.machine.specs.Parts.{cells_of}
 use Rattle.machine.proofs.parts.serials.Goals as goal

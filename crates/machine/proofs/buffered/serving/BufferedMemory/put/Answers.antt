@@ -3,12 +3,12 @@ use Rattle.machine.specs.View.{held_of}
 use Rattle.machine.proofs.Serving.{put_landed, put_waiting}
 use Rattle.machine.proofs.buffered.serving.BufferedMemory.put.Goals as goal
 
-pub returns-then-lands-directly : goal.returns-then-lands-directly
-returns-then-lands-directly g c =
-    let r = put_landed g.row.KIND c.args.self.now c.args.processor c.args.address c.in-ok-on-map.ensures.within.0 c.in-ok-on-map.ensures.within.1 c.args.word c.args.place (sym c.spent.ensures ∙ c.if-spent.false) c.put-through.result (held_of c.put-through.new.self) (sym c.lands-directly.ensures ∙ c.if-lands-directly.true) c.put-through.ensures.value c.put-through.ensures.held in
+pub returns-then-lands_directly : goal.returns-then-lands_directly
+returns-then-lands_directly g c =
+    let r = put_landed g.row.KIND c.args.self.now c.args.processor c.args.address c.in_ok-on_map.ensures.within.0 c.in_ok-on_map.ensures.within.1 c.args.word c.args.place (sym c.spent.ensures ∙ c.if-spent.false) c.put_through.result (held_of c.put_through.new.self) (sym c.lands_directly.ensures ∙ c.if-lands_directly.true) c.put_through.ensures.value c.put_through.ensures.held in
     record { meets = r.0; published = r.1 }
 
 pub returns : goal.returns
 returns g c =
-    let r = put_waiting g.row.KIND c.args.self.now c.args.processor c.args.address c.in-ok-on-map.ensures.within.0 c.in-ok-on-map.ensures.within.1 c.args.word c.args.place (sym c.spent.ensures ∙ c.if-spent.false) (held_of c.put-behind.new.self) (sym c.lands-directly.ensures ∙ c.if-lands-directly.false) c.put-behind.ensures in
+    let r = put_waiting g.row.KIND c.args.self.now c.args.processor c.args.address c.in_ok-on_map.ensures.within.0 c.in_ok-on_map.ensures.within.1 c.args.word c.args.place (sym c.spent.ensures ∙ c.if-spent.false) (held_of c.put_behind.new.self) (sym c.lands_directly.ensures ∙ c.if-lands_directly.false) c.put_behind.ensures in
     record { meets = r.0; published = r.1 }

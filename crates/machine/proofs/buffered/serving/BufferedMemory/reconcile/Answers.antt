@@ -4,5 +4,5 @@ use Rattle.machine.proofs.buffered.serving.BufferedMemory.reconcile.Goals as goa
 
 pub returns : goal.returns
 returns g c =
-    let r = reconciled g.row.KIND c.args.self.now c.args.processor (held_of c.let-all-go.new.self) c.let-all-go.ensures c.in-ok-on-core.ensures.within in
+    let r = reconciled g.row.KIND c.args.self.now c.args.processor (held_of c.let_all_go.new.self) c.let_all_go.ensures c.in_ok-on_core.ensures.within in
     record { meets = r.0; published = r.1 }

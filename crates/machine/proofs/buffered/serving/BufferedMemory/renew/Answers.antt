@@ -1,18 +1,18 @@
-use Rattle.std.proofs.Common.{length, refl, ap, ◌∙◌}
+use Rattle.std.proofs.Common.{length, refl, ap}
 use Rattle.kinds.proofs.Invariants.{good_new}
 use Rattle.port.specs.Holdings.{nothing_yet}
-use Rattle.machine.specs.ValuesLemmas.{facts, held_new}
+use Rattle.machine.proofs.Values.{facts, held_new}
 use Rattle.machine.proofs.buffered.serving.BufferedMemory.renew.Goals as goal
 
-pub invariant-of-self : goal.invariant-of-self
-invariant-of-self g c =
-    facts g.row.KIND c.initial-cells-self.result c.empty.new.waiting c.empty.new.copies nothing_yet (ap length c.initial-cells-self.ensures)
-    (held_new c.initial-cells-self.result c.empty.new.waiting c.empty.new.copies c.initial-cells-self.ensures c.empty.ensures.waits c.empty.ensures.copies)
+pub invariant_of-self : goal.invariant_of-self
+invariant_of-self g c =
+    facts g.row.KIND c.initial_cells-self.result c.empty.new.waiting c.empty.new.copies nothing_yet (ap length c.initial_cells-self.ensures)
+    (held_new c.initial_cells-self.result c.empty.new.waiting c.empty.new.copies c.initial_cells-self.ensures c.empty.ensures.waits c.empty.ensures.copies)
     (good_new g.row.KIND)
 
 pub returns : goal.returns
 returns g c =
     record {
-      held = held_new c.initial-cells-self.result c.empty.new.waiting c.empty.new.copies c.initial-cells-self.ensures c.empty.ensures.waits c.empty.ensures.copies;
+      held = held_new c.initial_cells-self.result c.empty.new.waiting c.empty.new.copies c.initial_cells-self.ensures c.empty.ensures.waits c.empty.ensures.copies;
       settings = refl;
     }

@@ -2,14 +2,12 @@
 use Rattle.std.specs.Prelude.{◌≡◌, ℕ, zero, suc, ◌<◌, ◌≤◌, true, List, [], length, replicate, Some, nat_lt, slice_index_or, refl}
 use Rattle.std.proofs.Common.{sym, ap, ap₂, subst, ◌∙◌, arith}
 use Rattle.std.proofs.Math.Path.{fun_ext}
-use Rattle.std.proofs.lemmas.List.{get_or_past}
 use Rattle.std.proofs.lemmas.Bool.{lt-ltb, and_from}
-use Rattle.buffers.specs.Four.{four}
 use Rattle.buffers.specs.View.{buffer_of, has_room}
 use Rattle.buffers.specs.declared.buffers.Buffers.{Buffers}
 use Rattle.kinds.specs.Invariants.{Few, Stale}
 use Rattle.kinds.specs.Kinds.{Plain}
-use Rattle.kinds.proofs.Invariants.{Good, sound_of}
+use Rattle.kinds.proofs.Invariants.{Good}
 use Rattle.model.specs.Memory.{initial_cell}
 use Rattle.model.specs.declared.memory.Cell.{Cell}
 use Rattle.model.specs.declared.memory.StaleCopy.{StaleCopy}
@@ -17,7 +15,6 @@ use Rattle.model.specs.declared.memory.WaitingStore.{WaitingStore}
 use Rattle.model.specs.Lists.{oldest}
 use Rattle.model.proofs.Lists.{term_at_most, length_without_oldest}
 use Rattle.port.specs.Holdings.{Held, nothing_yet, pending, total, store_at}
-use Rattle.port.specs.Laws.{Sound}
 use Rattle.machine.specs.Parts.{cells_of, held_in}
 use Rattle.machine.specs.View.{held_of}
 use Rattle.machine.specs.declared.buffered.Buffered.{Buffered}
@@ -25,18 +22,21 @@ use Rattle.machine.specs.declared.buffered.Buffered.{Buffered}
 pub good_of : (k : ℕ) (m : Buffered k) → Good k (held_of m)
 good_of k m = record { bounded = m.bounded; few = m.few; stale = m.stale; plain = m.plain }
 
--- the facts in the type, in their order
+-- the facts in the type, under their names
 abbrev pub Facts : ℕ → List Cell → Buffers WaitingStore → Buffers StaleCopy → Type 0
 Facts k cells waiting copies =
-    (length cells ≡ 8)
-    × ((total (held_in cells waiting copies) ≤ 64)
-    × (Few (held_in cells waiting copies)
-    × (Stale (held_in cells waiting copies) × (Plain k (held_in cells waiting copies) × Unit {0}))))
+    record {
+      whole : length cells ≡ 8;
+      bounded : total (held_in cells waiting copies) ≤ 64;
+      few : Few (held_in cells waiting copies);
+      stale : Stale (held_in cells waiting copies);
+      plain : Plain k (held_in cells waiting copies);
+    }
 
 pub facts : (k : ℕ) (cells : List Cell) (waiting : Buffers WaitingStore) (copies : Buffers StaleCopy) (h : Held) → length cells ≡ 8 → held_in cells waiting copies ≡ h → Good k h → Facts k cells waiting copies
 facts k cells waiting copies h whole e g =
     let good = subst (Good k) (sym e) g in
-    (whole, (good.bounded, (good.few, (good.stale, (good.plain, tt)))))
+    record { whole = whole; bounded = good.bounded; few = good.few; stale = good.stale; plain = good.plain }
 
 -- ## Room
 
@@ -70,20 +70,7 @@ pub held_new : (cells : List Cell) (waiting : Buffers WaitingStore) (copies : Bu
 held_new cells waiting copies e f g =
     same_held (cells_of cells) (λ a. initial_cell) (buffer_of waiting) (λ p. []) (buffer_of copies) (λ p. []) (ap cells_of e ∙ fun_ext (initials 8)) f g
 
--- ## In the words of the port
-
-four_past : {T : Type 0} (a b c d : List T) (p : ℕ) → 4 ≤ p → four a b c d p ≡ []
-four_past a b c d zero h = absurd (omega arith)
-four_past a b c d (suc zero) h = absurd (omega arith)
-four_past a b c d (suc (suc zero)) h = absurd (omega arith)
-four_past a b c d (suc (suc (suc zero))) h = absurd (omega arith)
-four_past a b c d (suc (suc (suc (suc p)))) h = refl
-
-pub sound_value : (k : ℕ) (m : Buffered k) → Sound (held_of m)
-sound_value k m =
-    sound_of (held_of m) m.bounded m.stale
-    (λ p l. (four_past _ _ _ _ p l, four_past _ _ _ _ p l))
-    (λ a l. get_or_past m.cells a initial_cell (omega (arith, m.whole)))
+-- ## Equal values
 
 -- what is so of an answer and of what is held is so of those that are equal to them
 pub carried : {X : Type 0} (F : X → Held → Type 0) (x y : X) (g h : Held) → x ≡ y → g ≡ h → F y h → F x g
