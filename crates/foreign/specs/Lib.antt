@@ -1,4 +1,2 @@
 pub mod Eager
-pub mod Evenness
-pub mod Eagerness
-pub mod Loads
+pub mod EagerLaws

@@ -1,6 +1,5 @@
 // A layer over a machine.
 ghost use Rattle.std.specs.Prelude.{◌≡◌};
-ghost use Rattle.std.proofs.Common.{rules};
 
 use model::{Cell, Fault, Origin, StaleCopy, Table, WaitingStore};
 use port::{Memory, Port, Stored};
@@ -87,19 +86,19 @@ impl<M: Port> Port for Passing<M> {
 
     ghost sound = { λ m. M.Port.sound m.below };
 
-    ghost bounds = { Prim.search rules };
+    ghost bounds = { λ m. M.Port.bounds m.below };
 
     ghost progress = { λ m. M.Port.progress m.below };
 
-    ghost floor = { Prim.search rules };
+    ghost floor = { M.Port.floor };
 
-    ghost copyless = { Prim.search rules };
+    ghost copyless = { λ m. M.Port.copyless m.below };
 
     ghost ordered = { λ m.
         let below = M.Port.ordered m.below in
         record { put = below.put; landing = below.landing } };
 
-    ghost direct = { Prim.search rules };
+    ghost direct = { λ m. M.Port.direct m.below };
 
     fn kind_number() -> u8 {
         M::kind_number()

@@ -3,9 +3,9 @@ ghost use Rattle.std.specs.Prelude.{[]};
 ghost use Rattle.model.specs.Tables.{wmm_table};
 ghost use Rattle.machine.specs.View.{held_of};
 ghost use Rattle.foreign.specs.Eager.{eager_choice};
-ghost use Rattle.machine.specs.ValuesLemmas.{sound_value};
-ghost use Rattle.foreign.specs.Evenness.{eager_bounds};
-ghost use Rattle.std.proofs.Common.{rules, arith};
+ghost use Rattle.foreign.specs.EagerLaws.{eager_bounds, eager_progress, eager_copyless, eager_ordered, eager_direct};
+ghost use Rattle.kinds.proofs.Laws.{floor_of};
+ghost use Rattle.machine.specs.Soundness.{sound_value};
 
 use super::Eager;
 use super::steps::{land_eagerly, put_eagerly};
@@ -83,15 +83,15 @@ impl Port for Eager {
 
     ghost bounds = { λ m. eager_bounds (held_of m.below) };
 
-    ghost progress = { first_of (Prim.search rules, Prim.grind (arith, Self.row.coded.inj)) };
+    ghost progress = { λ m. eager_progress (held_of m.below) };
 
-    ghost floor = { first_of (Prim.search rules, Prim.grind (arith, Self.row.coded.inj)) };
+    ghost floor = { floor_of 3 };
 
-    ghost copyless = { first_of (Prim.search rules, Prim.grind (arith, Self.row.coded.inj)) };
+    ghost copyless = { λ m. eager_copyless (held_of m.below) };
 
-    ghost ordered = { first_of (Prim.search rules, Prim.grind (arith, Self.row.coded.inj)) };
+    ghost ordered = { λ m. eager_ordered (held_of m.below) };
 
-    ghost direct = { first_of (Prim.search rules, Prim.grind (arith, Self.row.coded.inj)) };
+    ghost direct = { λ m. eager_direct (held_of m.below) };
 
     fn kind_number() -> u8 {
         Self::NUMBER

@@ -15,7 +15,7 @@ const LIMIT: usize = 2;
 // The processor lets go of its copies of the address.
 fn forget<M: Memory>(below: &mut M, processor: u8, address: u8)
     requires { (processor < 4) × (address < 8) }
-    ensures { held below.new ≡ after_newest (held below.old) processor address }
+    ensures { M.held below.new ≡ after_newest (M.held below.old) processor address }
 {
     let _ = below.newest(processor, address);
 }
@@ -23,7 +23,7 @@ fn forget<M: Memory>(below: &mut M, processor: u8, address: u8)
 // The even processors let go of theirs.
 fn forget_even<M: Memory>(below: &mut M, address: u8)
     requires { address < 8 }
-    ensures { held below.new ≡ without_even (held below.old) address }
+    ensures { M.held below.new ≡ without_even (M.held below.old) address }
 {
     forget(below, 0, address);
     forget(below, 2, address);

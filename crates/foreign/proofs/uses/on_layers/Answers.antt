@@ -7,4 +7,4 @@ use Rattle.foreign.proofs.uses.on_layers.Goals as goal
 pub once-requires : goal.once-requires
 once-requires c =
     ap (λ (m : Passing (Buffered 3)). held_of m.below) c.over-layers.ensures
-    ∙ ap (λ (m : Buffered 3). held_of m) c.over.ensures ∙ c.in-ok-machine.ensures
+    ∙ ap (λ (m : Buffered 3). held_of m) c.over.ensures ∙ c.in_ok-machine.ensures

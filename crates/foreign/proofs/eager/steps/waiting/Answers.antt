@@ -1,7 +1,7 @@
 use Rattle.std.proofs.Common.{length, sym, ap}
 use Rattle.machine.specs.View.{held_of}
-use Rattle.machine.specs.ValuesLemmas.{sound_value}
-use Rattle.foreign.specs.Eagerness.{counts_refused}
+use Rattle.machine.specs.Soundness.{sound_value}
+use Rattle.foreign.proofs.Eagerness.{counts_refused}
 use Rattle.foreign.proofs.eager.steps.waiting.Goals as goal
 
 pub returns-in-Err : goal.returns-in-Err

@@ -1,12 +1,12 @@
 use Rattle.machine.specs.View.{held_of}
-use Rattle.foreign.specs.Evenness.{even_newest, passes, still}
+use Rattle.foreign.proofs.Evenness.{even_newest, passes, still}
 use Rattle.foreign.proofs.eager.serving.EagerMemory.newest.Goals as goal
 
-pub invariant-of-self : goal.invariant-of-self
-invariant-of-self c =
+pub invariant_of-self : goal.invariant_of-self
+invariant_of-self c =
     let s = c.args.self.now.below in
     let none = c.args.self.now.odd in
-    (still _ (even_newest (held_of s) none c.args.processor c.args.address) s c.newest.new.self c.newest.result none c.newest.ensures.meets, tt)
+    record { odd = still _ (even_newest (held_of s) none c.args.processor c.args.address) s c.newest.new.self c.newest.result none c.newest.ensures.meets }
 
 pub returns : goal.returns
 returns c = passes _ c.args.self.now c.newest.new.self _ c.newest.result c.newest.ensures.meets

@@ -1,24 +1,20 @@
--- Even processors hold no copies, whatever an eager machine is asked, and the laws hold of it.
-use Rattle.std.specs.Prelude.{◌≡◌, ℕ, ◌≤◌, Bool, true, false, cond, List, [], length, Some, None, Ok, Err, Option, Result, ◌==◌, nat_le, refl}
+-- Even processors hold no copies, whatever an eager machine is asked.
+use Rattle.std.specs.Prelude.{◌≡◌, ℕ, ◌≤◌, Bool, true, false, List, [], length, Some, None, Ok, Err, Option, Result, ◌==◌}
 use Rattle.std.proofs.Common.{sym, ap, subst, arith}
 use Rattle.std.proofs.Math.Bridge.{le_prop}
-use Rattle.std.proofs.lemmas.List.{nil_from_length}
-use Rattle.std.proofs.lemmas.Bool.{and_parts, eqb-true}
-use Rattle.model.specs.Lists.{none_of, oldest, without}
+use Rattle.model.specs.Lists.{oldest, without}
 use Rattle.model.proofs.Lists.{length_without}
 use Rattle.model.specs.declared.fault.Fault.{Fault}
 use Rattle.model.specs.declared.fault.Refusal.{Refusal}
-use Rattle.model.specs.declared.fault.Refusal.TheVariants.{Held as HeldBack}
 use Rattle.model.specs.declared.memory.StaleCopy.{StaleCopy}
 use Rattle.model.specs.declared.memory.WaitingStore.{WaitingStore}
 use Rattle.port.specs.Calls.{Outcome, gives, refuses, unless, Meets, map_refusal, spent_refusal, core_refusal, old_found, old_outcome, newest_outcome, landing_found, landing_outcome, put_taken, put_outcome, reconcile_outcome}
-use Rattle.port.specs.Holdings.{Held, store_at, copy_at, older_copy, exact_copy, store_of, may_keep, with_copies}
-use Rattle.port.specs.Laws.{Own, Bounds}
+use Rattle.port.specs.Holdings.{Held, store_at, copy_at, older_copy, exact_copy, store_of, with_copies}
 use Rattle.machine.specs.View.{held_of, unset}
 use Rattle.machine.specs.declared.buffered.Buffered.{Buffered}
-use Rattle.foreign.specs.Eager.{odd, eager_choice, evens}
+use Rattle.foreign.specs.Eager.{eager_choice, evens}
 use Rattle.foreign.specs.declared.eager.Eager.{Eager}
-use Rattle.foreign.specs.Eagerness.{fewer, even_put}
+use Rattle.foreign.proofs.Eagerness.{fewer, even_put}
 
 -- ## Outcomes
 
@@ -80,19 +76,3 @@ same b c e x =
 pub passes : {X : Type 0} (o : Outcome X) (m : Eager) (b : Buffered 3) (none : evens (held_of b) ≤ 0) (r : Result X Fault) → Meets held_of unset o m.below b r → Meets (λ (x : Eager). held_of x.below) (λ (x : Eager). []) o m (record { below = b; odd = none }) r
 passes o m b none (Ok x) h = h
 passes o m b none (Err f) h = (h.0, same b m.below h.1 none m.odd)
-
--- ## Laws
-
-pub eager_bounds : (h : Held) → Bounds h (eager_choice h)
-eager_bounds h =
-    record {
-      lands = λ p a u l. ap (none_of (store_at a)) (nil_from_length (h.waits p) (eqb-true (length (h.waits p)) 0 l));
-      keeps = λ p a q e. (and_parts (odd q) (may_keep h p a q) e).1;
-      old = λ p a s. tt;
-      put = λ p a. own (nat_le 2 (length (h.waits p)));
-      landing = λ p a. tt;
-    }
-  where
-    own : (b : Bool) → Own (cond b (Some HeldBack) None)
-    own true = refl
-    own false = tt

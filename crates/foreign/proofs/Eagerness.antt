@@ -21,7 +21,7 @@ use Rattle.port.specs.declared.stored.Stored.TheVariants.{Waiting, Landed}
 use Rattle.port.proofs.Holdings.{on_map, direct_is_landing}
 use Rattle.machine.proofs.Keeping.{may_not}
 use Rattle.foreign.specs.Eager.{odd, eager_choice, evens, without_even, full}
-use Rattle.foreign.specs.Loads.{accepted}
+use Rattle.foreign.proofs.Loads.{accepted}
 
 -- ## Copies of the even processors
 

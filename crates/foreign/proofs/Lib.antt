@@ -1,0 +1,3 @@
+pub mod Eagerness
+pub mod Evenness
+pub mod Loads
