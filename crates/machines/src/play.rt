@@ -24,9 +24,10 @@ pub fn play<M: Port>(text: &mut String, machine: &mut M, calls: &[Call]) -> fmt:
 // The name of a kind, or its number, where it has no name.
 fn write_kind(text: &mut String, number: u8) -> fmt::Result {
     match Kind::numbered(number) {
-        Some(kind) => writeln!(text, "{kind}"),
-        None => writeln!(text, "kind {number}"),
+        Some(kind) => writeln!(text, "{kind}")?,
+        None => writeln!(text, "kind {number}")?,
     }
+    Ok(())
 }
 
 // Makes a call, and writes it with its answer and what the machine holds then.

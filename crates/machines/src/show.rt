@@ -37,7 +37,8 @@ fn write_waiting<M: Memory>(text: &mut String, machine: &M, processor: u8) -> fm
         let store = waiting(machine, processor, index);
         write!(text, " [{}]={}", store.address, store.word)?;
     }
-    writeln!(text)
+    writeln!(text)?;
+    Ok(())
 }
 
 // A line of the processor's copies, oldest first, if it has any.
@@ -57,7 +58,8 @@ fn write_copies<M: Memory>(text: &mut String, machine: &M, processor: u8) -> fmt
             copy.address, copy.cell.word, copy.cell.serial
         )?;
     }
-    writeln!(text)
+    writeln!(text)?;
+    Ok(())
 }
 
 // The looking calls, where they refuse nothing.

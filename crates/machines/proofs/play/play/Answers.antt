@@ -10,8 +10,8 @@ loop-call-init g c = begun
 
 pub loop-call-preserved : goal.loop-call-preserved
 loop-call-preserved g c =
-    played_more g.M.Memory c.args.machine.now c.loop-call.machine c.play-one.new.machine c.args.calls.now c.loop-call.call-index (Newest 0 0)
-    c.loop-call-test.true c.loop-call.invariant c.play-one.ensures
+    played_more g.M.Memory c.args.machine.now c.loop-call.machine c.play_one.new.machine c.args.calls.now c.loop-call.call-index (Newest 0 0)
+    c.loop-call-test.true c.loop-call.invariant c.play_one.ensures
 
 pub returns : goal.returns
 returns g c =
