@@ -92,7 +92,9 @@ impl<M: Port> Port for Passing<M> {
 
     ghost floor = { M.Port.floor };
 
-    ghost copyless = { λ m. M.Port.copyless m.below };
+    ghost copyless = { λ m.
+        let below = M.Port.copyless m.below in
+        record { holds = below.holds; keeps = below.keeps } };
 
     ghost ordered = { λ m.
         let below = M.Port.ordered m.below in
