@@ -92,6 +92,7 @@ impl<M: Port> Port for Passing<M> {
 
     ghost floor = { M.Port.floor };
 
+    // Field by field, as the next, so that each is held to the table by itself.
     ghost copyless = { λ m.
         let below = M.Port.copyless m.below in
         record { holds = below.holds; keeps = below.keeps } };
