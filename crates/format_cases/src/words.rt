@@ -111,7 +111,7 @@ const TABLE: [Row; 19] = [
 #[test]
 fn refusals(rt: HostRuntime) {
     for row in TABLE.iter() {
-        assert_eq!(rt; row.refusal.number(), row.number);
+        assert_eq!(rt; u8::from(row.refusal), row.number);
         assert_eq!(rt; row.refusal.word(), row.word);
     }
 }

@@ -9,7 +9,7 @@ use Rattle.model.specs.declared.fault.Refusal.TheVariants.{Held as HeldBack}
 use Rattle.model.specs.declared.line.LineKind.{LineKind}
 use Rattle.model.specs.declared.line.LineKind.TheVariants.{Load, Store, Reconcile, Commit}
 use Rattle.model.specs.declared.memory.WaitingStore.{WaitingStore}
-use Rattle.model.specs.declared.order.Table.{Table}
+use Rattle.model.specs.Orders.{Table}
 use Rattle.port.specs.Holdings.{Held, store_at, may_keep}
 use Rattle.port.specs.Laws.{Own, Bounds, Progress, copyless, NoCopies, in_order, InOrder, bufferless, Direct}
 use Rattle.kinds.specs.Kinds.{table_of, lands_directly, lands_in_order, keeps_copies, behind, choice_of, Plain}

@@ -2,7 +2,7 @@
 use Rattle.std.specs.Prelude.{◌≡◌, ℕ, zero, suc, Bool, true, false, cond, not, ◌&&◌, List, [], ◌∷◌, length, Some, None, ◌==◌, nat_le}
 use Rattle.model.specs.Tables.{sc_table, tso_table, pso_table, wmm_table}
 use Rattle.model.specs.declared.fault.Refusal.TheVariants.{Held as HeldBack}
-use Rattle.model.specs.declared.order.Table.{Table}
+use Rattle.model.specs.Orders.{Table}
 use Rattle.port.specs.Calls.{Choice}
 use Rattle.port.specs.Holdings.{Held, store_at, may_keep}
 

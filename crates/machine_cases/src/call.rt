@@ -36,7 +36,7 @@ pub enum Got {
 }
 
 fn refused(fault: Fault) -> Got {
-    Got::Refused(fault.refusal.number(), fault.place)
+    Got::Refused(u8::from(fault.refusal), fault.place)
 }
 
 fn read(answer: Result<(u32, Origin), Fault>) -> Got {

@@ -23,9 +23,9 @@ pub fn play<M: Port>(text: &mut String, machine: &mut M, calls: &[Call]) -> fmt:
 
 // The name of a kind, or its number, where it has no name.
 fn write_kind(text: &mut String, number: u8) -> fmt::Result {
-    match Kind::numbered(number) {
-        Some(kind) => writeln!(text, "{kind}")?,
-        None => writeln!(text, "kind {number}")?,
+    match Kind::try_from(number) {
+        Ok(kind) => writeln!(text, "{kind}")?,
+        Err(_) => writeln!(text, "kind {number}")?,
     }
     Ok(())
 }

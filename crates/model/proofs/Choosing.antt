@@ -1,5 +1,6 @@
 -- Answers that are chosen by a test, or by a number.
-use Rattle.std.proofs.Common.{◌≡◌, ℕ, Bool, true, false, cond, eqb, ◌⊎◌, Some, None, Option, sym, refl, ◌∙◌, inl, inr, ⊎_elim, arith}
+use Rattle.std.proofs.Common.{◌≡◌, ok_or, ℕ, Bool, true, false, cond, eqb, ◌⊎◌, Some, None, Option, sym, refl, ◌∙◌, inl, inr, ⊎_elim, arith}
+use Rattle.std.specs.Result.{result_ok}
 use Rattle.std.proofs.lemmas.Bool.{cases_Bool, cond-false, cond-true, eqb-true}
 
 module _ {T : Type 0} where
@@ -17,3 +18,8 @@ module _ {T : Type 0} where
       (λ t. inl (eqb-true k n t, sym (cond-true (eqb k n) here rest t) ∙ e))
       (λ f. inr (sym (cond-false (eqb k n) here rest f) ∙ e))
       (cases_Bool (eqb k n))
+
+-- an option that is made a result is still there
+pub result_ok-ok_or : {T E : Type 0} (o : Option T) (e : E) → result_ok (ok_or o e) ≡ o
+result_ok-ok_or None e = refl
+result_ok-ok_or (Some x) e = refl

@@ -56,6 +56,10 @@ layer_name Machine = codes "machine"
 layer_name Bench = codes "bench"
 layer_name Judge = codes "judge"
 
+-- the fault with which a layer refuses, at a place
+abbrev pub refused : Layer → Refusal → ℕ → Fault
+refused layer refusal place = record { refusal = refusal; layer = layer; place = place }
+
 -- how a fault is written: refused NUMBER LAYER PLACE
 abbrev pub fault_text : Fault → List ℕ
 fault_text fault =

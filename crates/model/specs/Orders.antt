@@ -4,20 +4,24 @@ use Rattle.model.specs.declared.line.LineKind.{LineKind}
 use Rattle.model.specs.declared.line.LineKind.TheVariants.{Load, Store, Reconcile, Commit}
 use Rattle.model.specs.declared.order.Order.{Order}
 use Rattle.model.specs.declared.order.Order.TheVariants.{Never, SameAddress, Always}
-use Rattle.model.specs.declared.order.Row.{Row}
-use Rattle.model.specs.declared.order.Table.{Table}
+use Rattle.model.specs.declared.order.PerKind.{PerKind}
 
-abbrev pub entry_in : Row → LineKind → Order
-entry_in row Load = row.load
-entry_in row Store = row.store
-entry_in row Reconcile = row.reconcile
-entry_in row Commit = row.commit
+-- the entries of one earlier instruction, by the kind of the later one
+abbrev pub Row : Type 0
+Row = PerKind Order
+
+-- a row for each kind of the earlier instruction
+abbrev pub Table : Type 0
+Table = PerKind Row
+
+abbrev pub at_kind : {T : Type 0} → PerKind T → LineKind → T
+at_kind values Load = values.load
+at_kind values Store = values.store
+at_kind values Reconcile = values.reconcile
+at_kind values Commit = values.commit
 
 abbrev pub entry : Table → LineKind → LineKind → Order
-entry table Load later = entry_in table.load later
-entry table Store later = entry_in table.store later
-entry table Reconcile later = entry_in table.reconcile later
-entry table Commit later = entry_in table.commit later
+entry table earlier later = at_kind (at_kind table earlier) later
 
 -- whether the earlier must stand above the later, given whether their addresses are equal
 abbrev pub demanded : Order → Bool → Bool

@@ -1,11 +1,9 @@
 -- The ordering tables of the four published memory models.
 use Rattle.std.specs.Prelude.{ℕ, ◌≤◌}
-use Rattle.model.specs.Orders.{entry}
+use Rattle.model.specs.Orders.{Row, Table, entry}
 use Rattle.model.specs.declared.line.LineKind.{LineKind}
 use Rattle.model.specs.declared.order.Order.{Order}
 use Rattle.model.specs.declared.order.Order.TheVariants.{Never, SameAddress, Always}
-use Rattle.model.specs.declared.order.Row.{Row}
-use Rattle.model.specs.declared.order.Table.{Table}
 
 abbrev pub always_row : Row
 always_row = record { load = Always; store = Always; reconcile = Always; commit = Always }

@@ -1,7 +1,8 @@
 // How a call refuses: a number with its word, the layer that refused, and the place.
 ghost use Rattle.std.specs.Prelude.{◌≡◌, Some};
-ghost use Rattle.model.specs.Faults.{fault_text, layer_name, refusal_number, refusal_word};
+ghost use Rattle.model.specs.Faults.{fault_text, layer_name, refusal_number, refusal_word, refused};
 
+use std::error::Error;
 use std::fmt;
 
 // Why a call refuses. docs/REFUSALS.md has the whole table.
@@ -47,14 +48,16 @@ pub enum Refusal {
     Value = 19,
 }
 
-impl Refusal {
-    // The number of the refusal table.
-    pub fn number(self) -> u8
-        ensures { result ≡ refusal_number self }
-    {
-        self as u8
-    }
+// The number of the refusal table.
+impl From<Refusal> for u8 {
+    ghost from_gives = { λ refusal number. number ≡ refusal_number refusal };
 
+    fn from(refusal: Refusal) -> u8 {
+        refusal as u8
+    }
+}
+
+impl Refusal {
     // The word of the refusal table.
     pub fn word(self) -> &'static str
         ensures { result.now ≡ refusal_word self }
@@ -94,15 +97,14 @@ pub enum Layer {
 }
 
 impl Layer {
-    fn name(self) -> &'static str
-        ensures { result.now ≡ layer_name self }
+    // The fault with which the layer refuses, at a place.
+    pub fn refuses(self, refusal: Refusal, place: usize) -> Fault
+        ensures { result ≡ refused self refusal place }
     {
-        match self {
-            Layer::Card => "card",
-            Layer::Sheet => "sheet",
-            Layer::Machine => "machine",
-            Layer::Bench => "bench",
-            Layer::Judge => "judge",
+        Fault {
+            refusal,
+            layer: self,
+            place,
         }
     }
 }
@@ -111,7 +113,13 @@ impl fmt::Display for Layer {
     ghost output = { λ layer. Some (layer_name layer) };
 
     fn fmt<W: fmt::Write>(&self, f: &mut fmt::Formatter<W>) -> fmt::Result {
-        f.pad(self.name())
+        f.pad(match self {
+            Layer::Card => "card",
+            Layer::Sheet => "sheet",
+            Layer::Machine => "machine",
+            Layer::Bench => "bench",
+            Layer::Judge => "judge",
+        })
     }
 }
 
@@ -128,9 +136,11 @@ impl fmt::Display for Fault {
     ghost output = { λ fault. Some (fault_text fault) };
 
     fn fmt<W: fmt::Write>(&self, f: &mut fmt::Formatter<W>) -> fmt::Result {
-        let number = self.refusal.number();
+        let number = u8::from(self.refusal);
         let layer = self.layer;
         let place = self.place;
         write!(f, "refused {number} {layer} {place}")
     }
 }
+
+impl Error for Fault {}

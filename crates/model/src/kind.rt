@@ -1,7 +1,10 @@
 // The kinds of machine.
-ghost use Rattle.std.specs.Prelude.{◌≡◌, Some};
+ghost use Rattle.std.specs.Prelude.{◌≡◌, ok_or, Some};
+ghost use Rattle.std.specs.Result.{result_ok};
 ghost use Rattle.model.specs.Kinds.{DecodesKind, kind_name, kind_number, kind_numbered};
+ghost use Rattle.model.specs.declared.fault.Refusal.TheVariants.{Count};
 
+use crate::fault::Refusal;
 use std::fmt;
 
 // A kind of machine: the memory model that a chip publishes.
@@ -17,51 +20,45 @@ pub enum Kind {
     Wmm = 3,
 }
 
-impl Kind {
-    // Its number in a sheet.
-    pub fn number(self) -> u8
-        ensures { result ≡ kind_number self }
-    {
-        self as u8
-    }
+// Its number in a sheet.
+impl From<Kind> for u8 {
+    ghost from_gives = { λ kind number. number ≡ kind_number kind };
 
-    // Its name in print.
-    fn name(self) -> &'static str
-        ensures { result.now ≡ kind_name self }
+    fn from(kind: Kind) -> u8 {
+        kind as u8
+    }
+}
+
+// The kind of a number; past the last there is none.
+impl TryFrom<u8> for Kind {
+    type Error = Refusal;
+
+    ghost try_from_gives = { λ number answer. answer ≡ ok_or (kind_numbered number) Count };
+
+    fn try_from(number: u8) -> Result<Kind, Refusal>
+        ensures value { result ≡ ok_or (kind_numbered number) Count }
+        ensures exact { DecodesKind number (result_ok result) }
     {
-        match self {
-            Kind::Sc => "SC",
-            Kind::Tso => "TSO",
-            Kind::Pso => "PSO",
-            Kind::Wmm => "WMM",
+        match number {
+            0 => Ok(Kind::Sc),
+            1 => Ok(Kind::Tso),
+            2 => Ok(Kind::Pso),
+            3 => Ok(Kind::Wmm),
+            _ => Err(Refusal::Count),
         }
     }
-
-    // The kind of a number, or none past the last.
-    pub fn numbered(number: u8) -> Option<Kind>
-        ensures value { result ≡ kind_numbered number }
-        ensures exact { DecodesKind number result }
-    {
-        of_number(number)
-    }
 }
 
-fn of_number(number: u8) -> Option<Kind>
-    ensures { result ≡ kind_numbered number }
-{
-    match number {
-        0 => Some(Kind::Sc),
-        1 => Some(Kind::Tso),
-        2 => Some(Kind::Pso),
-        3 => Some(Kind::Wmm),
-        _ => None,
-    }
-}
-
+// Its name in print.
 impl fmt::Display for Kind {
     ghost output = { λ kind. Some (kind_name kind) };
 
     fn fmt<W: fmt::Write>(&self, f: &mut fmt::Formatter<W>) -> fmt::Result {
-        f.pad(self.name())
+        f.pad(match self {
+            Kind::Sc => "SC",
+            Kind::Tso => "TSO",
+            Kind::Pso => "PSO",
+            Kind::Wmm => "WMM",
+        })
     }
 }

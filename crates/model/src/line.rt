@@ -2,7 +2,7 @@
 use crate::memory::Origin;
 
 // What a line says was run: a load, a store, or one of the two fences.
-#[derive(Clone, Copy, PartialEq, Eq)]
+#[derive(Clone, Copy, PartialEq, Eq, Debug)]
 pub enum LineKind {
     Load,
     Store,
@@ -13,7 +13,7 @@ pub enum LineKind {
 // One event of a memory order: the instruction at a place of a processor's thread, with its address
 // and word. The source is the store that a load read; a line of another kind has the initial one,
 // and a fence has address and word 0.
-#[derive(Clone, Copy)]
+#[derive(Clone, Copy, PartialEq, Eq, Debug)]
 pub struct Line {
     pub kind: LineKind,
     pub processor: u8,

@@ -1,11 +1,12 @@
 // Ordering tables: which instructions of a processor keep their order in memory.
 ghost use Rattle.std.specs.Prelude.{◌≡◌};
-ghost use Rattle.model.specs.Orders.{demanded, entry, entry_in};
+ghost use Rattle.model.specs.Orders.{at_kind, demanded, entry};
 
 use crate::line::LineKind;
+use std::ops::Index;
 
 // Whether an earlier instruction must stand above a later one of its processor.
-#[derive(Clone, Copy, PartialEq, Eq)]
+#[derive(Clone, Copy, PartialEq, Eq, Debug)]
 pub enum Order {
     Never,
     SameAddress,
@@ -25,48 +26,41 @@ impl Order {
     }
 }
 
-// The entries of one earlier instruction, by the kind of the later one.
-#[derive(Clone, Copy)]
-pub struct Row {
-    pub load: Order,
-    pub store: Order,
-    pub reconcile: Order,
-    pub commit: Order,
+// One value for each kind of instruction.
+#[derive(Clone, Copy, PartialEq, Eq, Debug)]
+pub struct PerKind<T> {
+    pub load: T,
+    pub store: T,
+    pub reconcile: T,
+    pub commit: T,
 }
 
-impl Row {
-    // The entry at a later instruction.
-    fn entry(&self, later: LineKind) -> Order
-        ensures { result ≡ entry_in self.now later }
-    {
-        match later {
-            LineKind::Load => self.load,
-            LineKind::Store => self.store,
-            LineKind::Reconcile => self.reconcile,
-            LineKind::Commit => self.commit,
+// The entries of one earlier instruction, by the kind of the later one.
+pub type Row = PerKind<Order>;
+
+// An ordering table: a row for each kind of the earlier instruction.
+pub type Table = PerKind<Row>;
+
+impl<T> Index<LineKind> for PerKind<T> {
+    type Output = T;
+
+    ghost index_gives = { λ values kind value. value ≡ at_kind values kind };
+
+    fn index(&self, kind: LineKind) -> &T {
+        match kind {
+            LineKind::Load => &self.load,
+            LineKind::Store => &self.store,
+            LineKind::Reconcile => &self.reconcile,
+            LineKind::Commit => &self.commit,
         }
     }
 }
 
-// An ordering table: a row for each kind of the earlier instruction.
-#[derive(Clone, Copy)]
-pub struct Table {
-    pub load: Row,
-    pub store: Row,
-    pub reconcile: Row,
-    pub commit: Row,
-}
-
-impl Table {
+impl PerKind<PerKind<Order>> {
     // The entry at an earlier and a later instruction.
     pub fn entry(&self, earlier: LineKind, later: LineKind) -> Order
         ensures { result ≡ entry self.now earlier later }
     {
-        match earlier {
-            LineKind::Load => self.load.entry(later),
-            LineKind::Store => self.store.entry(later),
-            LineKind::Reconcile => self.reconcile.entry(later),
-            LineKind::Commit => self.commit.entry(later),
-        }
+        self[earlier][later]
     }
 }

@@ -8,7 +8,7 @@ use Rattle.model.specs.declared.fault.Refusal.TheVariants.{Held as HeldBack}
 use Rattle.model.specs.declared.memory.WaitingStore.{WaitingStore}
 use Rattle.model.specs.declared.order.Order.{Order}
 use Rattle.model.specs.declared.order.Order.TheVariants.{Never, SameAddress, Always}
-use Rattle.model.specs.declared.order.Table.{Table}
+use Rattle.model.specs.Orders.{Table}
 use Rattle.port.specs.Calls.{Choice}
 use Rattle.port.specs.Holdings.{Held, total, store_at, may_keep}
 

@@ -1,7 +1,7 @@
 // Kinds of machine.
 ghost use Rattle.std.specs.Prelude.{◌≡◌, ℕ};
 ghost use Rattle.model.specs.Tables.{AtLeast, wmm_table};
-ghost use Rattle.model.specs.declared.order.Table.{Table};
+ghost use Rattle.model.specs.Orders.{Table};
 ghost use Rattle.port.specs.Laws.{Sound, Bounds, Progress, NoCopies, InOrder, Direct};
 
 use crate::memory::Memory;

@@ -1,23 +1,30 @@
 // The four bytes of an instruction.
-ghost use Rattle.std.specs.Prelude.{◌≡◌};
+ghost use Rattle.std.specs.Prelude.{◌≡◌, ok_or};
+ghost use Rattle.std.specs.Result.{result_ok};
 ghost use Rattle.isa.specs.Instrs.{Decodes, decoded, of_fields, of_kind};
+ghost use Rattle.model.specs.declared.fault.Refusal.TheVariants.{Malformed};
 
 use crate::fields::unused_are_zero;
 use crate::instr::Instr;
+use model::Refusal;
 
 // How many registers a processor has.
 const REGISTERS: u8 = 8;
 
-impl Instr {
-    // The instruction that bytes stand for: four of them, kind, d, s and c.
-    pub fn decode(bytes: &[u8]) -> Option<Instr>
-        ensures value { result ≡ decoded bytes.now }
-        ensures exact { Decodes bytes.now result }
+// The instruction that bytes stand for: four of them, kind, d, s and c.
+impl TryFrom<&[u8]> for Instr {
+    type Error = Refusal;
+
+    ghost try_from_gives = { λ bytes answer. answer ≡ ok_or (decoded bytes.now) Malformed };
+
+    fn try_from(bytes: &[u8]) -> Result<Instr, Refusal>
+        ensures value { result ≡ ok_or (decoded bytes.now) Malformed }
+        ensures exact { Decodes bytes.now (result_ok result) }
     {
         let &[kind, d, s, c] = bytes else {
-            return None;
+            return Err(Refusal::Malformed);
         };
-        of_fields(kind, d, s, c)
+        of_fields(kind, d, s, c).ok_or(Refusal::Malformed)
     }
 }
 
