@@ -1,11 +1,12 @@
 -- Bytes are decoded as an instruction exactly where they stand for it.
-use Rattle.std.proofs.Common.{◌≡◌, ℕ, suc, ◌<◌, Bool, true, false, cond, ◌&&◌, eqb, List, [], ◌∷◌, length, Some, None, Option, sym, refl, ap, ◌∙◌, subst, ⊎_elim, arith}
+use Rattle.std.proofs.Common.{◌≡◌, ℕ, suc, ◌<◌, Bool, true, false, cond, ◌&&◌, eqb, List, [], ◌∷◌, length, Some, None, sym, refl, ap, ◌∙◌, subst, ⊎_elim, arith}
 use Rattle.std.proofs.lemmas.Bool.{and_from, and_parts, cases_Bool, cond-true, cond-false, eqb-true, lt-ltb, ltb-true, ne_eqb}
 use Rattle.isa.specs.Fields.{unused_clear}
 use Rattle.isa.specs.Instrs.{StandsFor, RegistersExist, Decodes, decoded, layout, of_fields, of_kind, is_register}
 use Rattle.isa.specs.declared.instr.Instr.{Instr}
 use Rattle.isa.specs.declared.instr.Instr.TheVariants.{Set, Add, Sub, Branch, Load, Store, Commit, Reconcile}
-use Rattle.model.proofs.Choosing.{cond_some, none_some, some_cond}
+use Rattle.model.proofs.Choosing.{some_cond}
+use Rattle.std.proofs.lemmas.Option.{cond_some, none-some}
 
 abbrev four : ℕ → ℕ → ℕ → ℕ → List ℕ
 four k d s c = k ∷ d ∷ s ∷ c ∷ []
@@ -68,25 +69,25 @@ module _ (d s c : ℕ) (i : Instr) where
       ⊎_elim (λ h. at k 4 (all_fields 4 (Load d s c) (is_register d && is_register s) refl both h.1) h.0) (λ e.
       ⊎_elim (λ h. at k 5 (all_fields 5 (Store d s c) (is_register d && is_register s) refl both h.1) h.0) (λ e.
       ⊎_elim (λ h. at k 6 (no_fields 6 Commit refl tt clear_all h.1) h.0) (λ e.
-      ⊎_elim (λ h. at k 7 (no_fields 7 Reconcile refl tt clear_all h.1) h.0) (λ e. absurd (none_some i e))
+      ⊎_elim (λ h. at k 7 (no_fields 7 Reconcile refl tt clear_all h.1) h.0) (λ e. absurd (none-some i e))
       (some_cond k 7 _ _ i e)) (some_cond k 6 _ _ i e)) (some_cond k 5 _ _ i e)) (some_cond k 4 _ _ i e))
       (some_cond k 3 _ _ i e)) (some_cond k 2 _ _ i e)) (some_cond k 1 _ _ i e)) (some_cond k 0 _ _ i e)
 
   of_fields_stands : (k : ℕ) → of_fields k d s c ≡ Some i → StandsFor (four k d s c) i
   of_fields_stands k e =
       ⊎_elim (λ t. of_kind_stands k (sym (cond-true (unused_clear k d s c) (of_kind k d s c) None t) ∙ e) t)
-      (λ f. absurd (none_some i (sym (cond-false (unused_clear k d s c) (of_kind k d s c) None f) ∙ e)))
+      (λ f. absurd (none-some i (sym (cond-false (unused_clear k d s c) (of_kind k d s c) None f) ∙ e)))
       (cases_Bool (unused_clear k d s c))
 
 pub decoded_stands : (bs : List ℕ) (i : Instr) → decoded bs ≡ Some i → StandsFor bs i
-decoded_stands [] i e = absurd (none_some i e)
-decoded_stands (k ∷ []) i e = absurd (none_some i e)
-decoded_stands (k ∷ (d ∷ [])) i e = absurd (none_some i e)
-decoded_stands (k ∷ (d ∷ (s ∷ []))) i e = absurd (none_some i e)
+decoded_stands [] i e = absurd (none-some i e)
+decoded_stands (k ∷ []) i e = absurd (none-some i e)
+decoded_stands (k ∷ (d ∷ [])) i e = absurd (none-some i e)
+decoded_stands (k ∷ (d ∷ (s ∷ []))) i e = absurd (none-some i e)
 decoded_stands (k ∷ (d ∷ (s ∷ (c ∷ [])))) i e = of_fields_stands d s c i k e
 decoded_stands (k ∷ (d ∷ (s ∷ (c ∷ (b ∷ bs))))) i e =
     let n : eqb (suc (suc (suc (suc (suc (length bs)))))) 4 ≡ false = ne_eqb (suc (suc (suc (suc (suc (length bs)))))) 4 (λ h. omega arith) in
-    absurd (none_some i (sym (cond-false (eqb (suc (suc (suc (suc (suc (length bs)))))) 4) (of_fields k d s c) None n) ∙ e))
+    absurd (none-some i (sym (cond-false (eqb (suc (suc (suc (suc (suc (length bs)))))) 4) (of_fields k d s c) None n) ∙ e))
 
 layout_decoded : (i : Instr) → RegistersExist i → decoded (layout i) ≡ Some i
 layout_decoded (Set d c) r = cond-true (is_register d) (Some (Set d c)) None (lt-ltb d 8 r)
@@ -104,8 +105,8 @@ layout_decoded (Store d s c) r =
 layout_decoded Commit r = refl
 layout_decoded Reconcile r = refl
 
-pub decodes : (bs : List ℕ) (r : Option Instr) → r ≡ decoded bs → Decodes bs r
-decodes bs r e i = (
-  λ h. decoded_stands bs i (sym e ∙ h),
-  λ h. e ∙ (ap decoded h.written ∙ layout_decoded i h.registers),
+pub decodes : (bs : List ℕ) → Decodes bs (decoded bs)
+decodes bs i = (
+  decoded_stands bs i,
+  λ h. ap decoded h.written ∙ layout_decoded i h.registers,
 )

@@ -3,7 +3,7 @@ ghost use Rattle.std.specs.Prelude.{◌≡◌};
 ghost use Rattle.isa.specs.Fields.{used, unused_clear};
 
 // A field of an instruction, behind its kind.
-#[derive(Clone, Copy)]
+#[derive(Clone, Copy, PartialEq, Eq, Debug)]
 pub enum Field {
     D,
     S,
@@ -30,14 +30,13 @@ const USED: [[bool; 3]; 8] = [
     [false, false, false],
 ];
 
-// Whether a field may be other than 0.
+// Whether a field may be other than 0. The kind is a byte as it came in, which may name no
+// instruction, so it is no enum yet.
 pub fn is_used(kind: u8, field: Field) -> bool
     ensures { result ≡ used kind field }
 {
-    if kind > 7 {
-        return false;
-    }
-    USED[kind as usize][field as usize]
+    USED.get(kind as usize)
+        .is_some_and(|marks| marks[field as usize])
 }
 
 // Whether every field that the kind does not use is 0.

@@ -1,10 +1,10 @@
 -- Lemmas on functions changed at one place, and on searches and removals.
-use Rattle.std.proofs.Common.{◌≡◌, ℕ, zero, suc, ◌+◌, ◌-◌, ◌<◌, ◌≤◌, Bool, true, false, cond, not, ◌&&◌, eqb, List, [], ◌∷◌, ◌++◌, length, get_or, drop, set, Some, None, Option, sym, refl, ap, ◌∙◌, subst, ⊎_elim, arith}
+use Rattle.std.proofs.Common.{◌≡◌, ℕ, zero, suc, ◌+◌, ◌-◌, ◌<◌, ◌≤◌, Bool, true, false, cond, not, ◌&&◌, eqb, List, [], ◌∷◌, ◌++◌, length, get_or, set, Some, None, sym, refl, ap, ◌∙◌, subst, ⊎_elim, arith}
 use mathlib.Core.Path.{fun_ext}
 use Rattle.std.specs.List.{remove}
-use Rattle.std.proofs.lemmas.List.{at_drop_more, get_or-set_same, get_or-set_other}
+use Rattle.std.proofs.lemmas.List.{get_or-set_same, get_or-set_other}
 use Rattle.std.proofs.lemmas.Bool.{cases_Bool, cond-true, cond-false, eqb-true, eqb-false, eq-eqb, ne_eqb, and_parts, and_from, not-true}
-use Rattle.model.specs.Lists.{upd, sum_to, none_of, oldest, oldest_from, without_oldest, youngest_else, without}
+use Rattle.model.specs.Lists.{upd, sum_to, none_of, oldest, oldest_from, without_oldest, without}
 
 -- ## A function changed at one place
 
@@ -76,22 +76,6 @@ module _ {A : Type 0} (m : A → ℕ) where
 -- ## Searches
 
 module _ {T : Type 0} (test : T → Bool) where
-  -- one step of a loop over the places
-  pub place_here : (n : ℕ) (xs : List T) (i : ℕ) (d : T) → i < length xs → test (get_or xs i d) ≡ true → oldest_from test n (drop i xs) ≡ Some n
-  place_here n xs i d h e =
-      at_drop_more (λ ys. oldest_from test n ys) xs i d h
-      ∙ cond-true (test (get_or xs i d)) (Some n) (oldest_from test (n + 1) (drop (i + 1) xs)) e
-
-  pub place_on : (n : ℕ) (xs : List T) (i : ℕ) (d : T) → i < length xs → test (get_or xs i d) ≡ false → oldest_from test n (drop i xs) ≡ oldest_from test (n + 1) (drop (i + 1) xs)
-  place_on n xs i d h e =
-      at_drop_more (λ ys. oldest_from test n ys) xs i d h
-      ∙ cond-false (test (get_or xs i d)) (Some n) (oldest_from test (n + 1) (drop (i + 1) xs)) e
-
-  pub youngest_on : (o : Option T) (xs : List T) (i : ℕ) (d : T) (b : Bool) → i < length xs → test (get_or xs i d) ≡ b → youngest_else test o (drop i xs) ≡ youngest_else test (cond b (Some (get_or xs i d)) o) (drop (i + 1) xs)
-  youngest_on o xs i d b h e =
-      at_drop_more (λ ys. youngest_else test o ys) xs i d h
-      ∙ ap (λ c. youngest_else test (cond c (Some (get_or xs i d)) o) (drop (i + 1) xs)) e
-
   -- what a place that was found says
   pub record Found (n : ℕ) (xs : List T) (i : ℕ) : Type 0 where
     pub within : (i < n + length xs) × (n ≤ i)

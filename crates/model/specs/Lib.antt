@@ -1,3 +1,4 @@
+pub mod Decoding
 pub mod Faults
 pub mod Kinds
 pub mod Lists

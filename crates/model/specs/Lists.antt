@@ -1,6 +1,8 @@
 -- Lists whose oldest element stands first: searches and removals by a test of the elements.
 use Rattle.std.specs.Prelude.{ℕ, zero, suc, ◌+◌, Bool, true, cond, not, ◌&&◌, List, [], ◌∷◌, Some, None, Option, ◌==◌}
 use Rattle.std.specs.List.{AllByRecursion}
+-- the oldest that passes, and its place, where the list begins at a place
+pub use Rattle.std.specs.List.{find as oldest, position_from as oldest_from}
 
 -- f, but v at k
 abbrev pub upd : {A : Type 0} → (ℕ → A) → ℕ → A → ℕ → A
@@ -15,16 +17,6 @@ sum_to f (suc n) = sum_to f n + f n
 abbrev pub none_of : {T : Type 0} → (T → Bool) → List T → Bool
 none_of test [] = true
 none_of test (x ∷ xs) = not (test x) && none_of test xs
-
--- the oldest that passes
-abbrev pub oldest : {T : Type 0} → (T → Bool) → List T → Option T
-oldest test [] = None
-oldest test (x ∷ xs) = cond (test x) (Some x) (oldest test xs)
-
--- its place, where the list begins at place n
-abbrev pub oldest_from : {T : Type 0} → (T → Bool) → ℕ → List T → Option ℕ
-oldest_from test n [] = None
-oldest_from test n (x ∷ xs) = cond (test x) (Some n) (oldest_from test (n + 1) xs)
 
 -- the list without it
 abbrev pub without_oldest : {T : Type 0} → (T → Bool) → List T → List T

@@ -86,6 +86,17 @@ impl Refusal {
     }
 }
 
+// Its word in print.
+impl fmt::Display for Refusal {
+    ghost output = { λ refusal. Some (refusal_word refusal) };
+
+    fn fmt<W: fmt::Write>(&self, f: &mut fmt::Formatter<W>) -> fmt::Result {
+        f.pad(self.word())
+    }
+}
+
+impl Error for Refusal {}
+
 // The part of the system that refuses.
 #[derive(Clone, Copy, PartialEq, Eq, Debug)]
 pub enum Layer {

@@ -1,6 +1,6 @@
 // The kinds of machine.
-ghost use Rattle.std.specs.Prelude.{◌≡◌, ok_or, Some};
-ghost use Rattle.std.specs.Result.{result_ok};
+ghost use Rattle.std.specs.Prelude.{◌≡◌, Some};
+ghost use Rattle.model.specs.Decoding.{IsDecoded};
 ghost use Rattle.model.specs.Kinds.{DecodesKind, kind_name, kind_number, kind_numbered};
 ghost use Rattle.model.specs.declared.fault.Refusal.TheVariants.{Count};
 
@@ -20,7 +20,7 @@ pub enum Kind {
     Wmm = 3,
 }
 
-// Its number in a sheet.
+// A kind's number in a sheet.
 impl From<Kind> for u8 {
     ghost from_gives = { λ kind number. number ≡ kind_number kind };
 
@@ -33,12 +33,9 @@ impl From<Kind> for u8 {
 impl TryFrom<u8> for Kind {
     type Error = Refusal;
 
-    ghost try_from_gives = { λ number answer. answer ≡ ok_or (kind_numbered number) Count };
+    ghost try_from_gives = { IsDecoded kind_numbered DecodesKind Count };
 
-    fn try_from(number: u8) -> Result<Kind, Refusal>
-        ensures value { result ≡ ok_or (kind_numbered number) Count }
-        ensures exact { DecodesKind number (result_ok result) }
-    {
+    fn try_from(number: u8) -> Result<Kind, Refusal> {
         match number {
             0 => Ok(Kind::Sc),
             1 => Ok(Kind::Tso),
@@ -49,7 +46,7 @@ impl TryFrom<u8> for Kind {
     }
 }
 
-// Its name in print.
+// A kind's name in print.
 impl fmt::Display for Kind {
     ghost output = { λ kind. Some (kind_name kind) };
 

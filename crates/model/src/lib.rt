@@ -12,4 +12,4 @@ pub use fault::{Fault, Layer, Refusal};
 pub use kind::Kind;
 pub use line::{Line, LineKind};
 pub use memory::{Cell, Origin, StaleCopy, WaitingStore};
-pub use order::{Order, PerKind, Row, Table};
+pub use order::{Order, PerLineKind, Row, Table};

@@ -12,7 +12,7 @@ pub enum LineKind {
 
 // One event of a memory order: the instruction at a place of a processor's thread, with its address
 // and word. The source is the store that a load read; a line of another kind has the initial one,
-// and a fence has address and word 0.
+// and a fence has address and word 0: one shape for all, as memory orders come in line by line.
 #[derive(Clone, Copy, PartialEq, Eq, Debug)]
 pub struct Line {
     pub kind: LineKind,

@@ -5,7 +5,8 @@ ghost use Rattle.model.specs.Memory.{initial_cell, origin_text};
 use std::fmt;
 
 // Which store wrote a word: the instruction at a place of a processor's thread, or none, where the
-// word is the one that memory began with.
+// word is the one that memory began with. That is a source of its own with a name in print, so the
+// variants are named, and it is no Option.
 #[derive(Clone, Copy, PartialEq, Eq, Debug)]
 pub enum Origin {
     Initial,
@@ -32,7 +33,7 @@ pub struct Cell {
 }
 
 impl Cell {
-    // The cell of every address of a new machine.
+    // The cell of every address of a new machine. By name, and no `Default`: its word is to be chosen.
     pub fn initial() -> Cell
         ensures { result ≡ initial_cell }
     {

@@ -1,6 +1,6 @@
 // Ordering tables: which instructions of a processor keep their order in memory.
 ghost use Rattle.std.specs.Prelude.{◌≡◌};
-ghost use Rattle.model.specs.Orders.{at_kind, demanded, entry};
+ghost use Rattle.model.specs.Orders.{at_line_kind, demanded, entry};
 
 use crate::line::LineKind;
 use std::ops::Index;
@@ -28,7 +28,7 @@ impl Order {
 
 // One value for each kind of instruction.
 #[derive(Clone, Copy, PartialEq, Eq, Debug)]
-pub struct PerKind<T> {
+pub struct PerLineKind<T> {
     pub load: T,
     pub store: T,
     pub reconcile: T,
@@ -36,15 +36,15 @@ pub struct PerKind<T> {
 }
 
 // The entries of one earlier instruction, by the kind of the later one.
-pub type Row = PerKind<Order>;
+pub type Row = PerLineKind<Order>;
 
 // An ordering table: a row for each kind of the earlier instruction.
-pub type Table = PerKind<Row>;
+pub type Table = PerLineKind<Row>;
 
-impl<T> Index<LineKind> for PerKind<T> {
+impl<T> Index<LineKind> for PerLineKind<T> {
     type Output = T;
 
-    ghost index_gives = { λ values kind value. value ≡ at_kind values kind };
+    ghost index_gives = { λ values kind value. value ≡ at_line_kind values kind };
 
     fn index(&self, kind: LineKind) -> &T {
         match kind {
@@ -56,7 +56,7 @@ impl<T> Index<LineKind> for PerKind<T> {
     }
 }
 
-impl PerKind<PerKind<Order>> {
+impl Table {
     // The entry at an earlier and a later instruction.
     pub fn entry(&self, earlier: LineKind, later: LineKind) -> Order
         ensures { result ≡ entry self.now earlier later }

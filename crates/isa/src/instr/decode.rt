@@ -1,7 +1,7 @@
 // The four bytes of an instruction.
-ghost use Rattle.std.specs.Prelude.{◌≡◌, ok_or};
-ghost use Rattle.std.specs.Result.{result_ok};
+ghost use Rattle.std.specs.Prelude.{◌≡◌};
 ghost use Rattle.isa.specs.Instrs.{Decodes, decoded, of_fields, of_kind};
+ghost use Rattle.model.specs.Decoding.{IsDecoded};
 ghost use Rattle.model.specs.declared.fault.Refusal.TheVariants.{Malformed};
 
 use crate::fields::unused_are_zero;
@@ -15,12 +15,9 @@ const REGISTERS: u8 = 8;
 impl TryFrom<&[u8]> for Instr {
     type Error = Refusal;
 
-    ghost try_from_gives = { λ bytes answer. answer ≡ ok_or (decoded bytes.now) Malformed };
+    ghost try_from_gives = { λ bytes answer. IsDecoded decoded Decodes Malformed bytes.now answer };
 
-    fn try_from(bytes: &[u8]) -> Result<Instr, Refusal>
-        ensures value { result ≡ ok_or (decoded bytes.now) Malformed }
-        ensures exact { Decodes bytes.now (result_ok result) }
-    {
+    fn try_from(bytes: &[u8]) -> Result<Instr, Refusal> {
         let &[kind, d, s, c] = bytes else {
             return Err(Refusal::Malformed);
         };
@@ -38,7 +35,8 @@ fn of_fields(kind: u8, d: u8, s: u8, c: u8) -> Option<Instr>
     of_kind(kind, d, s, c)
 }
 
-// The instruction of a kind, if the registers that it names exist.
+// The instruction of a kind, if the registers that it names exist. The kind is a byte as it came
+// in, by a rule of the project: an enum of kinds would name the variants of Instr a second time.
 fn of_kind(kind: u8, d: u8, s: u8, c: u8) -> Option<Instr>
     ensures { result ≡ of_kind kind d s c }
 {
