@@ -1,11 +1,10 @@
 -- What the buffers hold.
-use Rattle.std.specs.Prelude.{ℕ, Bool, ◌&&◌, List, length, vec_items, nat_lt}
+use Rattle.std.specs.Prelude.{ℕ, Bool, ◌&&◌, List, [], length, map, slice_index_or, vec_items, nat_lt}
 use Rattle.buffers.specs.declared.buffers.Buffers.{Buffers}
-use Rattle.buffers.specs.Four.{four}
 
--- a processor's buffer, oldest first
+-- a processor's buffer, oldest first; there are four, so past them it is empty
 abbrev pub buffer_of : {T : Type 0} → Buffers T → ℕ → List T
-buffer_of b = four (vec_items b.first) (vec_items b.second) (vec_items b.third) (vec_items b.fourth)
+buffer_of b p = slice_index_or (map vec_items b.buffers) p []
 
 -- whether a processor's buffer takes one more
 abbrev pub has_room : {T : Type 0} → Buffers T → ℕ → Bool

@@ -3,7 +3,8 @@ ghost use Rattle.std.specs.Prelude.{◌≡◌, Bool, ◌&&◌, ◌==◌, nat_lt}
 
 use crate::addressed::{Addressed, Versioned};
 
-// A question that a record answers with yes or no.
+// A question that a record answers with yes or no. It is a trait, since a closure `Fn(&T) -> bool`
+// would need a `requires` on the search, and `picks` gives contracts the test as a function.
 pub trait Query<T> {
     ghost picks: { Self → T → Bool };
 
@@ -12,20 +13,20 @@ pub trait Query<T> {
 }
 
 // The records at an address.
-#[derive(Clone, Copy)]
+#[derive(Clone, Copy, PartialEq, Eq, Debug)]
 pub struct At {
     pub address: u8,
 }
 
 // The records at an address whose serial is smaller.
-#[derive(Clone, Copy)]
+#[derive(Clone, Copy, PartialEq, Eq, Debug)]
 pub struct Older {
     pub address: u8,
     pub serial: u8,
 }
 
 // The records at an address that have this serial.
-#[derive(Clone, Copy)]
+#[derive(Clone, Copy, PartialEq, Eq, Debug)]
 pub struct Exact {
     pub address: u8,
     pub serial: u8,

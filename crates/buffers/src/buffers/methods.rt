@@ -1,5 +1,5 @@
 // What can be done with the buffers.
-ghost use Rattle.std.specs.Prelude.{◌≡◌, true, [], ◌∷◌, ◌++◌, IfOk, if◌then◌else◌, Ok, Err};
+ghost use Rattle.std.specs.Prelude.{◌≡◌, [], ◌∷◌, ◌++◌, IfOk, if◌then◌else◌, Ok, Err};
 ghost use Rattle.model.specs.Lists.{upd, oldest, without_oldest, without};
 ghost use Rattle.buffers.specs.View.{buffer_of, has_room};
 
@@ -18,28 +18,18 @@ impl<T> Buffers<T> {
         T: Drop,
         ensures { IfOk result (λ b. buffer_of b ≡ (λ p. [])) }
     {
-        let first = Vec::with_capacity(heap, ROOM)?;
-        let second = Vec::with_capacity(heap, ROOM)?;
-        let third = Vec::with_capacity(heap, ROOM)?;
-        let fourth = Vec::with_capacity(heap, ROOM)?;
-        Ok(Buffers {
-            first,
-            second,
-            third,
-            fourth,
-        })
+        let empty = || Vec::with_capacity(heap, ROOM);
+        let buffers = [empty()?, empty()?, empty()?, empty()?];
+        Ok(Buffers { buffers })
     }
 
     // A processor's buffer, oldest first; past the fourth, an empty one.
     pub fn of(&self, processor: u8) -> &[T]
         ensures { result.now ≡ buffer_of self.now processor }
     {
-        match processor {
-            0 => self.first.as_slice(),
-            1 => self.second.as_slice(),
-            2 => self.third.as_slice(),
-            3 => self.fourth.as_slice(),
-            _ => &[],
+        match self.buffers.get(processor as usize) {
+            Some(buffer) => buffer.as_slice(),
+            None => &[],
         }
     }
 
@@ -49,7 +39,7 @@ impl<T> Buffers<T> {
         ensures after { buffer_of self.new ≡ (if has_room self.old processor then upd (buffer_of self.old) processor (buffer_of self.old processor ++ item ∷ []) else buffer_of self.old) }
     {
         if self.has_room(processor) {
-            self.append(processor, item);
+            self.buffers[processor as usize].push_reserved(item);
             Ok(())
         } else {
             Err(item)
@@ -63,30 +53,17 @@ impl<T> Buffers<T> {
         processor < 4 && self.of(processor).len() < ROOM
     }
 
-    // The item comes last in a processor's buffer.
-    fn append(&mut self, processor: u8, item: T)
-        requires { has_room self.old processor ≡ true }
-        ensures { buffer_of self.new ≡ upd (buffer_of self.old) processor (buffer_of self.old processor ++ item ∷ []) }
-    {
-        match processor {
-            0 => self.first.push_reserved(item),
-            1 => self.second.push_reserved(item),
-            2 => self.third.push_reserved(item),
-            _ => self.fourth.push_reserved(item),
-        }
-    }
-
     // The oldest that the query picks goes out of a processor's buffer.
     pub fn remove_oldest<Q: Query<T>>(&mut self, processor: u8, query: &Q) -> Option<T>
         ensures value { result ≡ oldest (Q.picks query.now) (buffer_of self.old processor) }
         ensures after { buffer_of self.new ≡ upd (buffer_of self.old) processor (without_oldest (Q.picks query.now) (buffer_of self.old processor)) }
     {
-        match processor {
-            0 => search::remove_oldest(&mut self.first, query),
-            1 => search::remove_oldest(&mut self.second, query),
-            2 => search::remove_oldest(&mut self.third, query),
-            3 => search::remove_oldest(&mut self.fourth, query),
-            _ => None,
+        // By index, here and below: std says nothing of an array's elements after `get_mut`.
+        let at = processor as usize;
+        if at < self.buffers.len() {
+            search::remove_oldest(&mut self.buffers[at], query)
+        } else {
+            None
         }
     }
 
@@ -96,12 +73,9 @@ impl<T> Buffers<T> {
         T: Drop,
         ensures { buffer_of self.new ≡ upd (buffer_of self.old) processor (without (Q.picks query.now) (buffer_of self.old processor)) }
     {
-        match processor {
-            0 => search::remove_all(&mut self.first, query),
-            1 => search::remove_all(&mut self.second, query),
-            2 => search::remove_all(&mut self.third, query),
-            3 => search::remove_all(&mut self.fourth, query),
-            _ => (),
+        let at = processor as usize;
+        if at < self.buffers.len() {
+            search::remove_all(&mut self.buffers[at], query);
         }
     }
 
@@ -111,12 +85,9 @@ impl<T> Buffers<T> {
         T: Drop,
         ensures { buffer_of self.new ≡ upd (buffer_of self.old) processor [] }
     {
-        match processor {
-            0 => self.first.clear(),
-            1 => self.second.clear(),
-            2 => self.third.clear(),
-            3 => self.fourth.clear(),
-            _ => (),
+        let at = processor as usize;
+        if at < self.buffers.len() {
+            self.buffers[at].clear();
         }
     }
 
@@ -126,9 +97,8 @@ impl<T> Buffers<T> {
         T: Drop,
         ensures { buffer_of self.new ≡ (λ p. []) }
     {
-        self.first.clear();
-        self.second.clear();
-        self.third.clear();
-        self.fourth.clear();
+        for buffer in &mut self.buffers {
+            buffer.clear();
+        }
     }
 }

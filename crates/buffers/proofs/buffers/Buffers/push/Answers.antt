@@ -1,13 +1,9 @@
-use Rattle.std.proofs.Common.{◌≡◌, true, false}
+use Rattle.std.proofs.Common.{rules, ◌≡◌, true, vec_items, [], ◌∷◌, ◌++◌}
 use Rattle.buffers.specs.View.{has_room}
+use Rattle.buffers.proofs.Places.{write}
 use Rattle.buffers.proofs.buffers.Buffers.push.Goals as goal
 
-pub returns-then-has_room : goal.returns-then-has_room
-returns-then-has_room g c =
+pub returns-then-has_room-clause-after : goal.returns-then-has_room-clause-after
+returns-then-has_room-clause-after g c =
     let room : has_room c.args.self.now c.args.processor ≡ true = cc in
-    record { value = rw room; after = rw room c.append.ensures }
-
-pub returns-else-has_room : goal.returns-else-has_room
-returns-else-has_room g c =
-    let full : has_room c.args.self.now c.args.processor ≡ false = cc in
-    record { value = rw full; after = rw full }
+    rw room (write vec_items c.args.self.now.buffers (λ xs. xs ++ c.args.item ∷ []) c.args.processor c.push_reserved.new.self c.index-self-processor.result (search rules) (search rules) (search rules))
