@@ -17,11 +17,8 @@ pub fn read_at_most<R: Files + Alloc>(rt: &R, path: &str, limit: usize) -> io::R
         Ok(file) => {
             file.take(limit as u64).read_to_end(&mut bytes)?;
         }
-        Err(e) => {
-            if e.kind() != ErrorKind::NotFound {
-                return Err(e);
-            }
-        }
+        Err(e) if e.kind() == ErrorKind::NotFound => {}
+        Err(e) => return Err(e),
     }
     bytes.truncate(limit);
     Ok(bytes)

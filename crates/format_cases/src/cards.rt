@@ -1,12 +1,7 @@
 // Every refusal of a card with its place, and its neighbours that are accepted.
+use crate::cases::{Case, agrees};
 use formats::Card;
-use model::{Fault, Layer, Refusal};
-
-struct Case {
-    bytes: &'static [u8],
-    // the refusal and its place, or none where the card is accepted
-    refused: Option<(Refusal, usize)>,
-}
+use model::{Layer, Refusal};
 
 const HEADERS: [Case; 17] = [
     Case {
@@ -81,150 +76,137 @@ const HEADERS: [Case; 17] = [
     },
 ];
 
-// Whether bytes are answered as a case says.
-fn agrees(bytes: &[u8], refused: Option<(Refusal, usize)>) -> bool {
-    let expected = match refused {
-        Some((refusal, place)) => Some(Fault {
-            refusal,
-            layer: Layer::Card,
-            place,
-        }),
-        None => None,
-    };
-    Card::check(bytes).err() == expected
-}
-
 #[test]
 fn headers(rt: HostRuntime) {
     for case in HEADERS.iter() {
-        assert!(rt; agrees(case.bytes, case.refused));
+        assert!(rt; agrees(Card::try_from(case.bytes), Layer::Card, case.refused));
     }
 }
 
-// The four bytes of the only instruction of a card, and whether it is accepted.
+// The four bytes of the only instruction of a card, and how they are answered.
 struct Alone {
     bytes: [u8; 4],
-    accepted: bool,
+    expected: Result<(), Refusal>,
 }
 
 const INSTRUCTIONS: [Alone; 28] = [
     // Set: s is 0, c is any byte
     Alone {
         bytes: [0, 7, 0, 255],
-        accepted: true,
+        expected: Ok(()),
     },
     Alone {
         bytes: [0, 8, 0, 1],
-        accepted: false,
+        expected: Err(Refusal::Malformed),
     },
     Alone {
         bytes: [0, 0, 1, 1],
-        accepted: false,
+        expected: Err(Refusal::Malformed),
     },
     // Add and Sub: three registers
     Alone {
         bytes: [1, 7, 7, 7],
-        accepted: true,
+        expected: Ok(()),
     },
     Alone {
         bytes: [1, 8, 0, 0],
-        accepted: false,
+        expected: Err(Refusal::Malformed),
     },
     Alone {
         bytes: [1, 0, 8, 0],
-        accepted: false,
+        expected: Err(Refusal::Malformed),
     },
     Alone {
         bytes: [1, 0, 0, 8],
-        accepted: false,
+        expected: Err(Refusal::Malformed),
     },
     Alone {
         bytes: [2, 7, 7, 7],
-        accepted: true,
+        expected: Ok(()),
     },
     Alone {
         bytes: [2, 8, 0, 0],
-        accepted: false,
+        expected: Err(Refusal::Malformed),
     },
     Alone {
         bytes: [2, 0, 8, 0],
-        accepted: false,
+        expected: Err(Refusal::Malformed),
     },
     Alone {
         bytes: [2, 0, 0, 8],
-        accepted: false,
+        expected: Err(Refusal::Malformed),
     },
     // Branch: s is 0, and the target is at most the thread's end
     Alone {
         bytes: [3, 7, 0, 0],
-        accepted: true,
+        expected: Ok(()),
     },
     Alone {
         bytes: [3, 0, 0, 1],
-        accepted: false,
+        expected: Err(Refusal::Malformed),
     },
     Alone {
         bytes: [3, 8, 0, 0],
-        accepted: false,
+        expected: Err(Refusal::Malformed),
     },
     Alone {
         bytes: [3, 0, 1, 0],
-        accepted: false,
+        expected: Err(Refusal::Malformed),
     },
     // Load and Store: two registers, c is any byte
     Alone {
         bytes: [4, 7, 7, 255],
-        accepted: true,
+        expected: Ok(()),
     },
     Alone {
         bytes: [4, 8, 0, 0],
-        accepted: false,
+        expected: Err(Refusal::Malformed),
     },
     Alone {
         bytes: [4, 0, 8, 0],
-        accepted: false,
+        expected: Err(Refusal::Malformed),
     },
     Alone {
         bytes: [5, 7, 7, 255],
-        accepted: true,
+        expected: Ok(()),
     },
     Alone {
         bytes: [5, 8, 0, 0],
-        accepted: false,
+        expected: Err(Refusal::Malformed),
     },
     Alone {
         bytes: [5, 0, 8, 0],
-        accepted: false,
+        expected: Err(Refusal::Malformed),
     },
     // Commit and Reconcile: all fields are 0
     Alone {
         bytes: [6, 0, 0, 0],
-        accepted: true,
+        expected: Ok(()),
     },
     Alone {
         bytes: [6, 1, 0, 0],
-        accepted: false,
+        expected: Err(Refusal::Malformed),
     },
     Alone {
         bytes: [6, 0, 1, 0],
-        accepted: false,
+        expected: Err(Refusal::Malformed),
     },
     Alone {
         bytes: [7, 0, 0, 0],
-        accepted: true,
+        expected: Ok(()),
     },
     Alone {
         bytes: [7, 0, 0, 1],
-        accepted: false,
+        expected: Err(Refusal::Malformed),
     },
     // no other kind
     Alone {
         bytes: [8, 0, 0, 0],
-        accepted: false,
+        expected: Err(Refusal::Malformed),
     },
     Alone {
         bytes: [255, 0, 0, 0],
-        accepted: false,
+        expected: Err(Refusal::Malformed),
     },
 ];
 
@@ -232,12 +214,9 @@ const INSTRUCTIONS: [Alone; 28] = [
 fn instructions(rt: HostRuntime) {
     for case in INSTRUCTIONS.iter() {
         let [kind, d, s, c] = case.bytes;
-        let refused = if case.accepted {
-            None
-        } else {
-            Some((Refusal::Malformed, 4))
-        };
-        assert!(rt; agrees(&[1, 1, 1, 4, kind, d, s, c], refused));
+        let refused = case.expected.err().map(|refusal| (refusal, 4));
+        let bytes = [1, 1, 1, 4, kind, d, s, c];
+        assert!(rt; agrees(Card::try_from(bytes.as_slice()), Layer::Card, refused));
     }
 }
 
@@ -279,7 +258,7 @@ const THREADS: [Case; 7] = [
 #[test]
 fn threads(rt: HostRuntime) {
     for case in THREADS.iter() {
-        assert!(rt; agrees(case.bytes, case.refused));
+        assert!(rt; agrees(Card::try_from(case.bytes), Layer::Card, case.refused));
     }
 }
 
@@ -291,6 +270,12 @@ fn long_cards(rt: HostRuntime) {
     bytes[1] = 1;
     bytes[2] = 16;
     bytes[3] = 255;
-    assert!(rt; agrees(&bytes[0..318], Some((Refusal::Cut, 318))));
-    assert!(rt; agrees(&bytes[0..319], None));
+    assert!(rt;
+        agrees(
+            Card::try_from(&bytes[0..318]),
+            Layer::Card,
+            Some((Refusal::Cut, 318))
+        )
+    );
+    assert!(rt; agrees(Card::try_from(&bytes[0..319]), Layer::Card, None));
 }

@@ -4,6 +4,8 @@
 #[cfg(test)]
 mod cards;
 #[cfg(test)]
+mod cases;
+#[cfg(test)]
 mod reads;
 #[cfg(test)]
 mod sheets;

@@ -14,8 +14,7 @@ const SHEET: [u8; 26] = [
 
 #[test]
 fn reads_a_card(rt: HostRuntime) -> Result<(), Fail> {
-    Card::check(&CARD)?;
-    let card = Card::new(&CARD);
+    let card = Card::try_from(CARD.as_slice())?;
     assert_eq!(rt; card.processors(), 2);
     assert_eq!(rt; card.addresses(), 2);
     assert_eq!(rt; card.thread_len(0), 3);
@@ -52,8 +51,7 @@ fn reads_a_card(rt: HostRuntime) -> Result<(), Fail> {
 
 #[test]
 fn reads_a_sheet(rt: HostRuntime) -> Result<(), Fail> {
-    Sheet::check(&SHEET)?;
-    let sheet = Sheet::new(&SHEET);
+    let sheet = Sheet::try_from(SHEET.as_slice())?;
     assert_eq!(rt; sheet.kind(), Kind::Tso);
     assert_eq!(rt; sheet.len(), 8);
     assert_eq!(rt; sheet.get(0), Some(Move::Step { processor: 0 }));
@@ -67,8 +65,8 @@ fn reads_a_sheet(rt: HostRuntime) -> Result<(), Fail> {
     );
     assert_eq!(rt; sheet.get(8), None);
     assert_eq!(rt;
-        Move::decode(&[1, 3, 9]),
-        Some(Move::OldLoad {
+        Move::try_from([1, 3, 9].as_slice()),
+        Ok(Move::OldLoad {
             processor: 3,
             serial: 9,
         })

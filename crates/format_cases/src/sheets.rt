@@ -1,12 +1,7 @@
 // Every refusal of a sheet with its place, and its neighbours that are accepted.
+use crate::cases::{Case, agrees};
 use formats::Sheet;
-use model::{Fault, Layer, Refusal};
-
-struct Case {
-    bytes: &'static [u8],
-    // the refusal and its place, or none where the sheet is accepted
-    refused: Option<(Refusal, usize)>,
-}
+use model::{Layer, Refusal};
 
 const SHEETS: [Case; 17] = [
     Case {
@@ -83,23 +78,10 @@ const SHEETS: [Case; 17] = [
     },
 ];
 
-// Whether bytes are answered as a case says.
-fn agrees(bytes: &[u8], refused: Option<(Refusal, usize)>) -> bool {
-    let expected = match refused {
-        Some((refusal, place)) => Some(Fault {
-            refusal,
-            layer: Layer::Sheet,
-            place,
-        }),
-        None => None,
-    };
-    Sheet::check(bytes).err() == expected
-}
-
 #[test]
 fn sheets(rt: HostRuntime) {
     for case in SHEETS.iter() {
-        assert!(rt; agrees(case.bytes, case.refused));
+        assert!(rt; agrees(Sheet::try_from(case.bytes), Layer::Sheet, case.refused));
     }
 }
 
@@ -108,6 +90,12 @@ fn sheets(rt: HostRuntime) {
 fn long_sheets(rt: HostRuntime) {
     let mut bytes = [0u8; 767];
     bytes[1] = 255;
-    assert!(rt; agrees(&bytes[0..766], Some((Refusal::Cut, 766))));
-    assert!(rt; agrees(&bytes[0..767], None));
+    assert!(rt;
+        agrees(
+            Sheet::try_from(&bytes[0..766]),
+            Layer::Sheet,
+            Some((Refusal::Cut, 766))
+        )
+    );
+    assert!(rt; agrees(Sheet::try_from(&bytes[0..767]), Layer::Sheet, None));
 }

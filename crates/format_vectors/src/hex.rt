@@ -8,11 +8,11 @@ use std::alloc::{AllocError, Global};
 pub fn bytes_of(heap: Global, text: &[u8]) -> Result<Vec<u8>, AllocError>
     ensures { IfOk result (λ bytes. Spelled text.now bytes.items) }
 {
-    let mut bytes = Vec::new(heap);
-    for i in 0..text.len() / 2 {
-        bytes.push(16 * digit_of(text[2 * i]) + digit_of(text[2 * i + 1]))?;
-    }
-    Ok(bytes)
+    let (pairs, _) = text.as_chunks::<2>();
+    pairs
+        .iter()
+        .map(|&[high, low]| 16 * digit_of(high) + digit_of(low))
+        .collect(heap)
 }
 
 // The value of a digit, and 0 for what is none.

@@ -4,8 +4,9 @@
 #![tactic(auto)]
 
 ghost use Rattle.std.specs.Prelude.{◌≡◌, ◌≤◌, IfOk, vec_len};
+ghost use Rattle.std.specs.Result.{result_err};
 ghost use Rattle.formats.specs.Cards.{card_fault};
-ghost use Rattle.formats.specs.Checks.{first, verdict};
+ghost use Rattle.formats.specs.Checks.{first};
 ghost use Rattle.formats.specs.Sheets.{sheet_fault};
 
 mod hex;
@@ -62,10 +63,11 @@ fn file_of(rt: &HostRuntime, text: &str) -> Result<Vec<u8>, AllocError>
     Ok(bytes)
 }
 
-// The card's fault, or else the sheet's.
+// Whether both are accepted, or the card's fault, or else the sheet's.
 fn accepted(card: &[u8], sheet: &[u8]) -> Result<(), Fault>
-    ensures { result ≡ verdict (first (card_fault card.now) (sheet_fault sheet.now)) }
+    ensures { result_err result ≡ first (card_fault card.now) (sheet_fault sheet.now) }
 {
-    Card::check(card)?;
-    Sheet::check(sheet)
+    Card::try_from(card)?;
+    Sheet::try_from(sheet)?;
+    Ok(())
 }

@@ -1,14 +1,17 @@
 -- A card has no fault exactly where it keeps every rule.
-use Rattle.std.proofs.Common.{◌≡◌, ℕ, ◌+◌, ◌*◌, ◌<◌, ◌≤◌, true, ◌&&◌, leb, List, length, Some, None, Option, Result, refl, ap, ◌∙◌}
+use Rattle.std.proofs.Common.{◌≡◌, ℕ, ◌+◌, ◌*◌, ◌<◌, ◌≤◌, true, ◌&&◌, leb, List, length, ok_or, IsErrAnd, Some, None, Ok, Option, Result, sym, refl, ap, ◌∙◌, subst}
+use Rattle.std.specs.Result.{MatchResult}
 use Rattle.std.proofs.lemmas.Bool.{and_from, and_parts, false≢true, le-leb, leb-true}
 use Rattle.model.specs.declared.fault.Fault.{Fault}
+use Rattle.model.specs.declared.fault.Refusal.{Refusal}
+use Rattle.model.specs.declared.fault.Refusal.TheVariants.{Malformed}
 use Rattle.formats.specs.CardRules.{CardRules, HeaderIsWhole, IsInstruction, OneToEightAddresses, OneToFourProcessors, ThreadFits}
 use Rattle.formats.specs.Cards.{addresses_in, card_fault, count_at, fits_thread, furthest, header_fault, header_length, instr_bytes, instr_fault, instrs_fault, offset_at, processors_in, thread_fault}
-use Rattle.formats.specs.Checks.{AcceptsExactly, first_of, verdict}
+use Rattle.formats.specs.Checks.{IsCheckedView, first, first_of}
 use Rattle.isa.specs.Instrs.{decoded}
 use Rattle.isa.specs.declared.instr.Instr.{Instr}
 use Rattle.isa.proofs.Decoding.{decodes}
-use Rattle.formats.proofs.Firsts.{accepts, all_none, check_from, check_parts, each_none, first_from, first_parts}
+use Rattle.formats.proofs.Firsts.{all_none, check_from, check_parts, each_none, first_from, first_parts, refused, viewed}
 
 range : (low high n : ℕ) → leb low n && leb n high ≡ true → (low ≤ n) × (n ≤ high)
 range low high n e =
@@ -62,7 +65,7 @@ keeps_thread bs p h =
 instr_is : (bs : List ℕ) (p i : ℕ) (o : Option Instr) → o ≡ decoded (instr_bytes bs p i) → fits_thread (count_at bs p) i o ≡ true → IsInstruction bs p i
 instr_is bs p i None d e = absurd (false≢true e)
 instr_is bs p i (Some x) d e =
-    record { instr = x; bytes = (decodes (instr_bytes bs p i) (Some x) d x).0 refl; target = leb-true (furthest i x) (count_at bs p) e }
+    record { instr = x; bytes = (decodes (instr_bytes bs p i) x).0 (sym d); target = leb-true (furthest i x) (count_at bs p) e }
 
 instr_keeps : (bs : List ℕ) (p i : ℕ) → instr_fault bs p i ≡ None → IsInstruction bs p i
 instr_keeps bs p i e =
@@ -71,9 +74,24 @@ instr_keeps bs p i e =
 
 keeps_instr : (bs : List ℕ) (p i : ℕ) → IsInstruction bs p i → instr_fault bs p i ≡ None
 keeps_instr bs p i h =
-    let d = (decodes (instr_bytes bs p i) (decoded (instr_bytes bs p i)) refl h.instr).1 h.bytes in
+    let d = (decodes (instr_bytes bs p i) h.instr).1 h.bytes in
     check_from (fits_thread (count_at bs p) i (decoded (instr_bytes bs p i))) _ _
     (ap (fits_thread (count_at bs p) i) d ∙ le-leb (furthest i h.instr) (count_at bs p) h.target) refl
+
+-- an instruction that was read, its refusals turned into faults
+abbrev Read : Instr → Result Instr Refusal → Type 0
+Read x r = MatchResult r (λ y. ◌≡◌ {A = Result Instr Fault} (Ok x) (Ok y)) (λ e. ⊥)
+
+read_is : (o : Option Instr) (x : Instr) → Read x (ok_or o Malformed) → o ≡ Some x
+read_is None x m = absurd m
+read_is (Some y) x m = cc
+
+-- such an instruction that stays in its thread
+pub stays : (bs : List ℕ) (p i : ℕ) (r : Result Instr Refusal) (x : Instr) → r ≡ ok_or (decoded (instr_bytes bs p i)) Malformed → Read x r → furthest i x ≤ count_at bs p → instr_fault bs p i ≡ None
+stays bs p i r x e m l =
+    let d = read_is (decoded (instr_bytes bs p i)) x (subst (Read x) e m) in
+    check_from (fits_thread (count_at bs p) i (decoded (instr_bytes bs p i))) _ _
+    (ap (fits_thread (count_at bs p) i) d ∙ le-leb (furthest i x) (count_at bs p) l) refl
 
 pub threads_keep : (bs : List ℕ) → header_length bs ≤ length bs → first_of (thread_fault bs) 0 (processors_in bs) ≡ None → (p : ℕ) → p < processors_in bs → ThreadFits bs p
 threads_keep bs h e p l = thread_keeps bs p h (each_none (thread_fault bs) (processors_in bs) e p l)
@@ -100,5 +118,26 @@ keeps_faultless bs r =
     (all_none (thread_fault bs) (processors_in bs) (λ p l. keeps_thread bs p (record { header = r.header.1; count = r.counts p l; inside = r.offsets p l })))
     (all_none (instrs_fault bs) (processors_in bs) (λ p l. all_none (instr_fault bs p) (count_at bs p) (λ i m. keeps_instr bs p i (r.instructions p i l m)))))
 
-pub card_accepts : (bs : List ℕ) (r : Result (Unit {0}) Fault) → r ≡ verdict (card_fault bs) → AcceptsExactly (CardRules bs) r
-card_accepts bs r e = accepts (card_fault bs) r e (faultless_keeps bs) (keeps_faultless bs)
+abbrev threads : List ℕ → Option Fault
+threads bs = first_of (thread_fault bs) 0 (processors_in bs)
+
+abbrev instrs : List ℕ → Option Fault
+instrs bs = first_of (instrs_fault bs) 0 (processors_in bs)
+
+-- a header that was read from equal bytes, and that has no fault
+module _ (bs header : List ℕ) (same : header ≡ bs) (h : None ≡ header_fault bs) where
+  pub of_thread : (fault : Fault) → Some fault ≡ threads header → Some fault ≡ card_fault bs
+  of_thread fault t = ap (λ o. first o (instrs bs)) (t ∙ ap threads same) ∙ ap (λ o. first o (first (threads bs) (instrs bs))) h
+
+  pub of_instr : None ≡ threads header → (o : Option Fault) → o ≡ instrs header → o ≡ card_fault bs
+  of_instr t o i =
+      i
+      ∙ (ap instrs same
+      ∙ (ap (λ o. first o (instrs bs)) (t ∙ ap threads same) ∙ ap (λ o. first o (first (threads bs) (instrs bs))) h))
+
+module _ {T : Type 0} (over : T → List ℕ) where
+  pub card_viewed : (bs : List ℕ) (view : T) → None ≡ card_fault bs → over view ≡ bs → IsCheckedView over card_fault CardRules bs (Ok view)
+  card_viewed = viewed over card_fault faultless_keeps keeps_faultless
+
+  pub card_refused : (bs : List ℕ) (r : Result T Fault) (fault : Fault) → Some fault ≡ card_fault bs → IsErrAnd r (λ e. e ≡ fault) → IsCheckedView over card_fault CardRules bs r
+  card_refused = refused over card_fault faultless_keeps keeps_faultless

@@ -6,4 +6,3 @@ mod Records
 mod Schedules
 mod SheetAcceptance
 mod Threads
-pub mod Verdicts

@@ -1,22 +1,21 @@
 -- Text that is written line by line.
-use Rattle.std.proofs.Common.{◌≡◌, ℕ, zero, suc, ◌+◌, ◌<◌, ◌≤◌, List, [], ◌∷◌, ◌++◌, length, get_or, take, Some, None, codes, decimal, sym, ap, ◌∙◌, arith}
+use Rattle.std.proofs.Common.{◌≡◌, ℕ, zero, suc, ◌+◌, ◌<◌, ◌≤◌, List, [], ◌∷◌, ◌++◌, length, take, Some, None, codes, decimal, sym, ap, ◌∙◌, ⊎_elim, arith}
 use Rattle.std.specs.Fmt.{IsPlainFormatter, HasWritten}
 use Rattle.std.specs.declared.fmt.Formatter.{Formatter}
 use Rattle.std.specs.List.{slice_get}
 use Rattle.std.proofs.Output.{has_written_append, has_written_of_eq}
 use Rattle.std.proofs.lemmas.List.{append_assoc, append-nil, take_all}
-use Rattle.std.proofs.lemmas.Option.{slice_get-get_or}
 use Rattle.model.specs.Text.{text}
 use Rattle.formats.specs.Listings.{numbered, thread_text, threads_text}
 use Rattle.formats.specs.Programs.{Program}
-use Rattle.model.proofs.Choosing.{none_some}
+use Rattle.std.proofs.lemmas.Option.{none-some, slice_get_cases}
 
 module _ {T : Type 0} (show : T → List ℕ) where
   abbrev pub line : ℕ → T → List ℕ
   line i x = text (decimal i ∷ codes " " ∷ show x ∷ codes "\n" ∷ [])
 
   one_more : (xs : List T) (j i : ℕ) (x : T) → slice_get xs i ≡ Some x → numbered show j (take (suc i) xs) ≡ numbered show j (take i xs) ++ line (j + i) x
-  one_more [] j i x e = absurd (none_some x e)
+  one_more [] j i x e = absurd (none-some x e)
   one_more (y ∷ ys) j zero x e =
       let same : y ≡ x = cc in
       let z : j ≡ j + 0 = omega arith in
@@ -37,8 +36,8 @@ module _ {T : Type 0} (show : T → List ℕ) where
   numbered_all xs n h = ap (numbered show 0) (take_all n xs h)
 
   -- an index below the length has an item
-  pub has_item : (xs : List T) (i : ℕ) (d : T) → i < length xs → None ≡ slice_get xs i → ⊥
-  has_item xs i d h e = none_some (get_or xs i d) (e ∙ slice_get-get_or xs i d h)
+  pub has_item : (xs : List T) (i : ℕ) → i < length xs → None ≡ slice_get xs i → ⊥
+  has_item xs i h e = ⊎_elim (λ item. none-some item.0 (e ∙ item.2)) (λ past. omega (arith, past.0)) (slice_get_cases xs i).1
 
   module _ {W : Type 0} (took : W → List ℕ → W → Type 0) (f : Formatter W) where
     -- one more line of a loop that has written i of them

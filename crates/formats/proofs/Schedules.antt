@@ -1,5 +1,5 @@
 -- The moves of a sheet that has no fault.
-use Rattle.std.proofs.Common.{◌≡◌, ℕ, ◌<◌, false, List, length, is_some, sym, refl}
+use Rattle.std.proofs.Common.{◌≡◌, ℕ, ◌<◌, false, List, length, is_some, sym}
 use Rattle.std.specs.List.{slice_get}
 use Rattle.formats.specs.Moves.{move_decoded}
 use Rattle.formats.specs.Schedules.{schedule}
@@ -17,7 +17,7 @@ module _ (bs : List ℕ) (ok : is_some (sheet_fault bs) ≡ false) where
   all_there : AllThere move_decoded 3 bs 2 (moves_in bs)
   all_there i l =
       let m = (keeps_rules bs ok).moves i l in
-      (m.0, (decodes_move (move_bytes bs i) (move_decoded (move_bytes bs i)) refl m.0).1 m.1)
+      (m.0, (decodes_move (move_bytes bs i) m.0).1 m.1)
 
   pub moves_length : moves_in bs ≡ length (schedule bs).moves
   moves_length = sym (records_length move_decoded 3 bs 2 (moves_in bs) all_there)

@@ -1,14 +1,14 @@
 -- A sheet has no fault exactly where it keeps every rule.
-use Rattle.std.proofs.Common.{◌≡◌, ℕ, ◌+◌, ◌*◌, true, leb, List, length, is_some, Some, None, Option, Result, refl, ap}
+use Rattle.std.proofs.Common.{◌≡◌, ℕ, ◌+◌, ◌*◌, true, leb, List, length, is_some, IsErrAnd, Some, None, Ok, Option, Result, refl, ap, ◌∙◌}
 use Rattle.std.proofs.lemmas.Bool.{false≢true, le-leb, leb-true}
 use Rattle.model.specs.Kinds.{DecodesKind, kind_numbered}
 use Rattle.model.specs.declared.fault.Fault.{Fault}
-use Rattle.formats.specs.Checks.{AcceptsExactly, verdict}
+use Rattle.formats.specs.Checks.{IsCheckedView, first, first_of}
 use Rattle.formats.specs.Moves.{move_decoded}
 use Rattle.formats.specs.SheetRules.{IsMove, MovesAreWhole, NamesKind, SheetRules}
 use Rattle.formats.specs.Sheets.{kind_in, move_bytes, move_fault, moves_in, sheet_fault, start_fault}
 use Rattle.model.proofs.Numbering.{decodes_kind}
-use Rattle.formats.proofs.Firsts.{accepts, all_none, check_from, check_parts, each_none, first_from, first_parts}
+use Rattle.formats.proofs.Firsts.{all_none, check_from, check_parts, each_none, first_from, first_parts, refused, viewed}
 use Rattle.formats.proofs.MoveDecoding.{decodes_move}
 
 there : {T : Type 0} (o : Option T) → is_some o ≡ true → (x : T) × (o ≡ Some x)
@@ -16,7 +16,7 @@ there None e = absurd (false≢true e)
 there (Some x) e = (x, refl)
 
 kind_is : (bs : List ℕ) → DecodesKind (kind_in bs) (kind_numbered (kind_in bs))
-kind_is bs = decodes_kind (kind_in bs) (kind_numbered (kind_in bs)) refl
+kind_is bs = decodes_kind (kind_in bs)
 
 -- what a start that has no fault keeps
 pub record StartRules (bs : List ℕ) : Type 0 where
@@ -43,12 +43,12 @@ keeps_start bs h =
 move_keeps : (bs : List ℕ) (i : ℕ) → move_fault bs i ≡ None → IsMove bs i
 move_keeps bs i e =
     let m = there (move_decoded (move_bytes bs i)) (check_parts (is_some (move_decoded (move_bytes bs i))) _ _ e).0 in
-    (m.0, (decodes_move (move_bytes bs i) (move_decoded (move_bytes bs i)) refl m.0).0 m.1)
+    (m.0, (decodes_move (move_bytes bs i) m.0).0 m.1)
 
 keeps_move : (bs : List ℕ) (i : ℕ) → IsMove bs i → move_fault bs i ≡ None
 keeps_move bs i h =
     check_from (is_some (move_decoded (move_bytes bs i))) _ _
-    (ap is_some ((decodes_move (move_bytes bs i) (move_decoded (move_bytes bs i)) refl h.0).1 h.1)) refl
+    (ap is_some ((decodes_move (move_bytes bs i) h.0).1 h.1)) refl
 
 pub faultless_keeps : (bs : List ℕ) → sheet_fault bs ≡ None → SheetRules bs
 faultless_keeps bs e =
@@ -61,5 +61,13 @@ keeps_faultless bs r =
     first_from (start_fault bs) _ (keeps_start bs (record { kind = r.kind; whole = r.whole }))
     (all_none (move_fault bs) (moves_in bs) (λ i l. keeps_move bs i (r.moves i l)))
 
-pub sheet_accepts : (bs : List ℕ) (r : Result (Unit {0}) Fault) → r ≡ verdict (sheet_fault bs) → AcceptsExactly (SheetRules bs) r
-sheet_accepts bs r e = accepts (sheet_fault bs) r e (faultless_keeps bs) (keeps_faultless bs)
+-- the fault of a sheet whose start has none
+pub past_start : (bs : List ℕ) → None ≡ start_fault bs → (o : Option Fault) → o ≡ first_of (move_fault bs) 0 (moves_in bs) → o ≡ sheet_fault bs
+past_start bs h o m = m ∙ ap (λ o. first o (first_of (move_fault bs) 0 (moves_in bs))) h
+
+module _ {T : Type 0} (over : T → List ℕ) where
+  pub sheet_viewed : (bs : List ℕ) (view : T) → None ≡ sheet_fault bs → over view ≡ bs → IsCheckedView over sheet_fault SheetRules bs (Ok view)
+  sheet_viewed = viewed over sheet_fault faultless_keeps keeps_faultless
+
+  pub sheet_refused : (bs : List ℕ) (r : Result T Fault) (fault : Fault) → Some fault ≡ sheet_fault bs → IsErrAnd r (λ e. e ≡ fault) → IsCheckedView over sheet_fault SheetRules bs r
+  sheet_refused = refused over sheet_fault faultless_keeps keeps_faultless

@@ -1,6 +1,7 @@
 -- Cards: where the parts of one lie, and the first rule that bytes break.
 use Rattle.std.specs.Prelude.{ℕ, ◌+◌, ◌*◌, Bool, false, ◌&&◌, List, length, Some, None, Option, nat_le, slice_index}
 use Rattle.std.specs.List.{between}
+use Rattle.model.specs.Faults.{refused}
 use Rattle.model.specs.declared.fault.Fault.{Fault}
 use Rattle.model.specs.declared.fault.Layer.TheVariants.{Card}
 use Rattle.model.specs.declared.fault.Refusal.{Refusal}
@@ -51,7 +52,7 @@ fits_thread n i None = false
 fits_thread n i (Some instr) = nat_le (furthest i instr) n
 
 abbrev pub card_refusal : Refusal → ℕ → Fault
-card_refusal refusal place = record { refusal = refusal; layer = Card; place = place }
+card_refusal = refused Card
 
 abbrev within : ℕ → ℕ → ℕ → Bool
 within low high n = nat_le low n && nat_le n high

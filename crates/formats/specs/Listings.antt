@@ -1,5 +1,5 @@
 -- Programs and schedules in plain text, a line for each instruction and each move.
-use Rattle.std.specs.Prelude.{ℕ, zero, suc, ◌+◌, List, [], ◌∷◌, ◌++◌, length, codes, decimal}
+use Rattle.std.specs.Prelude.{◌≡◌, ℕ, zero, suc, ◌+◌, ◌<◌, List, [], ◌∷◌, ◌++◌, length, Some, Option, codes, decimal, slice_get}
 use Rattle.model.specs.Kinds.{kind_name}
 use Rattle.model.specs.Text.{text}
 use Rattle.model.specs.declared.kind.Kind.{Kind}
@@ -12,6 +12,15 @@ use Rattle.formats.specs.Schedules.{Schedule}
 abbrev pub numbered : {T : Type 0} → (T → List ℕ) → ℕ → List T → List ℕ
 numbered show i [] = []
 numbered show i (x ∷ xs) = text (decimal i ∷ codes " " ∷ show x ∷ codes "\n" ∷ []) ++ numbered show (i + 1) xs
+
+-- each value is displayed as its text
+abbrev pub ShowsEach : {T : Type 0} → (T → Option (List ℕ)) → (T → List ℕ) → Type 0
+ShowsEach {T} output show = (x : T) → output x ≡ Some (show x)
+
+-- the items that are answered at the indices below n
+pub record AnswersItems {T : Type 0} (answers : ℕ → Option T → Type 0) (n : ℕ) (items : List T) : Type 0 where
+  pub len : length items ≡ n
+  pub each : (i : ℕ) (item : Option T) → i < n → answers i item → item ≡ slice_get items i
 
 abbrev pub thread_title : ℕ → List ℕ
 thread_title p = text (codes "thread " ∷ decimal p ∷ codes "\n" ∷ [])

@@ -2,6 +2,7 @@
 use Rattle.std.specs.Prelude.{ℕ, ◌+◌, ◌*◌, List, length, is_some, None, Option, nat_le, slice_index}
 use Rattle.std.specs.List.{between}
 use Rattle.model.specs.Kinds.{kind_numbered}
+use Rattle.model.specs.Faults.{refused}
 use Rattle.model.specs.declared.fault.Fault.{Fault}
 use Rattle.model.specs.declared.fault.Layer.TheVariants.{Sheet}
 use Rattle.model.specs.declared.fault.Refusal.{Refusal}
@@ -25,7 +26,7 @@ abbrev pub move_bytes : List ℕ → ℕ → List ℕ
 move_bytes bs i = between (move_byte i) (move_byte i + 3) bs
 
 abbrev pub sheet_refusal : Refusal → ℕ → Fault
-sheet_refusal refusal place = record { refusal = refusal; layer = Sheet; place = place }
+sheet_refusal = refused Sheet
 
 -- the kind, and room for the moves
 abbrev pub start_fault : List ℕ → Option Fault

@@ -3,6 +3,7 @@
 
 mod card;
 mod moves;
+mod numbered;
 mod sheet;
 
 pub use card::Card;

@@ -1,7 +1,10 @@
 // Moves and their three bytes.
-ghost use Rattle.std.specs.Prelude.{◌≡◌, Some};
-ghost use Rattle.formats.specs.Moves.{DecodesMove, move_decoded, move_of, move_text};
+ghost use Rattle.std.specs.Prelude.{Some};
+ghost use Rattle.formats.specs.Moves.{DecodesMove, move_decoded, move_text};
+ghost use Rattle.model.specs.Decoding.{IsDecoded};
+ghost use Rattle.model.specs.declared.fault.Refusal.TheVariants.{Malformed};
 
+use model::Refusal;
 use std::fmt;
 
 // A move that a planner proposes.
@@ -15,33 +18,28 @@ pub enum Move {
     Landing { processor: u8, address: u8 },
 }
 
-impl Move {
-    // The move that bytes stand for: three of them, a number, a processor and an operand.
-    pub fn decode(bytes: &[u8]) -> Option<Move>
-        ensures value { result ≡ move_decoded bytes.now }
-        ensures exact { DecodesMove bytes.now result }
-    {
-        let &[number, processor, operand] = bytes else {
-            return None;
-        };
-        of_fields(number, processor, operand)
-    }
-}
+// The move that bytes stand for: three of them, a number, a processor and an operand.
+impl TryFrom<&[u8]> for Move {
+    type Error = Refusal;
 
-fn of_fields(number: u8, processor: u8, operand: u8) -> Option<Move>
-    ensures { result ≡ move_of number processor operand }
-{
-    match number {
-        0 if operand == 0 => Some(Move::Step { processor }),
-        1 => Some(Move::OldLoad {
-            processor,
-            serial: operand,
-        }),
-        2 => Some(Move::Landing {
-            processor,
-            address: operand,
-        }),
-        _ => None,
+    ghost try_from_gives = { λ bytes answer. IsDecoded move_decoded DecodesMove Malformed bytes.now answer };
+
+    fn try_from(bytes: &[u8]) -> Result<Move, Refusal> {
+        let &[number, processor, operand] = bytes else {
+            return Err(Refusal::Malformed);
+        };
+        match number {
+            0 if operand == 0 => Ok(Move::Step { processor }),
+            1 => Ok(Move::OldLoad {
+                processor,
+                serial: operand,
+            }),
+            2 => Ok(Move::Landing {
+                processor,
+                address: operand,
+            }),
+            _ => Err(Refusal::Malformed),
+        }
     }
 }
 

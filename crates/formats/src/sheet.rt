@@ -1,16 +1,16 @@
 // Sheets: lists of moves as bytes.
-ghost use Rattle.std.specs.Prelude.{◌≡◌, false, is_some};
+ghost use Rattle.std.specs.Prelude.{IsNone};
 ghost use Rattle.formats.specs.Sheets.{sheet_fault};
 
 mod check;
-mod parts;
+mod moves;
 mod read;
 mod show;
 
 // A kind of machine and moves to make on it, read from the caller's bytes. No sheet exists over
 // bytes that break a rule.
-#[derive(Clone, Copy)]
+#[derive(Clone, Copy, PartialEq, Eq, Debug)]
 pub struct Sheet<'a> {
     bytes: &'a [u8],
-    ghost ok: { is_some (sheet_fault bytes.now) ≡ false },
+    ghost ok: { IsNone (sheet_fault bytes.now) },
 }

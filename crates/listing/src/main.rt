@@ -31,7 +31,8 @@ fn run(rt: &HostRuntime) -> anyhow::Result<()> {
     Ok(())
 }
 
-// A file's bytes, or an error that names the file.
+// A file's bytes, or an error that names the file. Making its text may fail, so it stands in no
+// closure.
 fn load(rt: &HostRuntime, path: &str) -> anyhow::Result<Vec<u8>>
     ensures { IfOk result (λ bytes. vec_len bytes ≤ 1024) }
 {

@@ -1,21 +1,34 @@
 // What the program prints.
 ghost use Rattle.std.specs.Prelude.{◌≡◌, IfOk, string_bytes};
+ghost use Rattle.std.specs.Result.{result_err};
+ghost use Rattle.formats.specs.Cards.{card_fault};
+ghost use Rattle.formats.specs.Checks.{first};
+ghost use Rattle.formats.specs.Programs.{program, program_of};
+ghost use Rattle.formats.specs.Schedules.{schedule, schedule_of};
+ghost use Rattle.formats.specs.Sheets.{sheet_fault};
 ghost use Rattle.listing.specs.Report.{listed_text, report_text};
 
 use formats::{Card, Sheet};
+use model::Fault;
 use std::alloc::{AllocError, Global};
 
 // The program of a card and the moves of a sheet, or the fault of the card, or of the sheet.
 pub fn report(heap: Global, card: &[u8], sheet: &[u8]) -> Result<String, AllocError>
     ensures { IfOk result (λ text. string_bytes text ≡ report_text card.now sheet.now) }
 {
-    if let Err(fault) = Card::check(card) {
-        return format!(in heap; "{fault}\n");
+    match accepted(card, sheet) {
+        Ok((card, sheet)) => listed(heap, card, sheet),
+        Err(fault) => format!(in heap; "{fault}\n"),
     }
-    if let Err(fault) = Sheet::check(sheet) {
-        return format!(in heap; "{fault}\n");
-    }
-    listed(heap, Card::new(card), Sheet::new(sheet))
+}
+
+// The card and the sheet, or the fault of the card, or of the sheet.
+fn accepted<'a>(card: &'a [u8], sheet: &'a [u8]) -> Result<(Card<'a>, Sheet<'a>), Fault>
+    ensures fault { result_err result ≡ first (card_fault card.now) (sheet_fault sheet.now) }
+    ensures card { IfOk result (λ both. program_of both.0 ≡ program card.now) }
+    ensures sheet { IfOk result (λ both. schedule_of both.1 ≡ schedule sheet.now) }
+{
+    Ok((Card::try_from(card)?, Sheet::try_from(sheet)?))
 }
 
 // The program and the moves.

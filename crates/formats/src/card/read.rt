@@ -1,13 +1,15 @@
 // What a card says: the program that its bytes stand for.
-ghost use Rattle.std.specs.Prelude.{◌≡◌, ◌≤◌, length};
+ghost use Rattle.std.specs.Prelude.{◌≡◌, ◌≤◌, length, IfNone, IfSome};
 ghost use Rattle.std.specs.List.{slice_get};
+ghost use Rattle.formats.specs.Cards.{processors_in};
 ghost use Rattle.formats.specs.Programs.{Runs, program_of};
 
 use crate::card::Card;
-use crate::card::parts::{count_at, instr_byte};
+use crate::card::header::Header;
+use crate::card::thread::Thread;
 use isa::Instr;
 
-impl Card<'_> {
+impl<'a> Card<'a> {
     // How many processors the program has: 1 to 4.
     pub fn processors(&self) -> u8
         ensures value { result ≡ (program_of self.now).processors }
@@ -29,10 +31,10 @@ impl Card<'_> {
         ensures value { result ≡ length ((program_of self.now).thread processor) }
         ensures bound { result ≤ 16 }
     {
-        if processor >= self.bytes[0] {
-            return 0;
+        match self.thread(processor) {
+            Some(thread) => thread.len(),
+            None => 0,
         }
-        count_at(self.bytes, processor as usize)
     }
 
     // An instruction of a processor's thread, or none past its end.
@@ -40,10 +42,22 @@ impl Card<'_> {
         ensures value { result ≡ slice_get ((program_of self.now).thread processor) place }
         ensures runs { Runs (length ((program_of self.now).thread processor)) place result }
     {
-        if place >= self.thread_len(processor) {
+        let thread = self.thread(processor)?;
+        if place >= thread.len() {
             return None;
         }
-        let at = instr_byte(self.bytes, processor as usize, place as usize);
-        Instr::decode(&self.bytes[at..at + 4])
+        thread.instr(place).ok()
+    }
+
+    // The thread of a processor, or none if the program has no such processor.
+    fn thread(&self, processor: u8) -> Option<Thread<'a>>
+        ensures none { IfNone result (processors_in self.now.bytes.now ≤ processor) }
+        ensures some { IfSome result (λ thread. (thread.header.bytes.now ≡ self.now.bytes.now) × (thread.processor ≡ processor)) }
+    {
+        if processor >= self.processors() {
+            return None;
+        }
+        let header = Header { bytes: self.bytes };
+        Some(Thread { header, processor })
     }
 }

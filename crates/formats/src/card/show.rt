@@ -1,11 +1,11 @@
 // A card in plain text.
 ghost use Rattle.std.specs.Fmt.{DisplaysOnOk};
 ghost use Rattle.std.specs.Prelude.{Some};
-ghost use Rattle.isa.specs.Instrs.{instr_text};
-ghost use Rattle.formats.specs.Listings.{numbered, program_text, program_title, thread_text, threads_text};
+ghost use Rattle.formats.specs.Listings.{program_text, program_title, thread_text, threads_text};
 ghost use Rattle.formats.specs.Programs.{program_of};
 
 use crate::card::Card;
+use crate::numbered::write_numbered;
 use std::fmt;
 
 impl fmt::Display for Card<'_> {
@@ -31,6 +31,7 @@ fn write_title<W: fmt::Write>(
 fn write_threads<W: fmt::Write>(card: &Card<'_>, f: &mut fmt::Formatter<W>) -> fmt::Result
     ensures { DisplaysOnOk W.Write.write_str_gives f.old result (Some (threads_text (program_of card.now) (program_of card.now).processors)) f.new }
 {
+    // by number: it is what the card answers by, and what the title says
     for processor in 0..card.processors() {
         write_thread(card, processor, f)?;
     }
@@ -46,22 +47,9 @@ fn write_thread<W: fmt::Write>(
     ensures { DisplaysOnOk W.Write.write_str_gives f.old result (Some (thread_text (program_of card.now) processor)) f.new }
 {
     writeln!(f, "thread {processor}")?;
-    write_instrs(card, processor, f)
-}
-
-// A line for each instruction of a thread.
-fn write_instrs<W: fmt::Write>(
-    card: &Card<'_>,
-    processor: u8,
-    f: &mut fmt::Formatter<W>,
-) -> fmt::Result
-    ensures { DisplaysOnOk W.Write.write_str_gives f.old result (Some (numbered instr_text 0 ((program_of card.now).thread processor))) f.new }
-{
-    for place in 0..card.thread_len(processor) {
-        let Some(instr) = card.instr(processor, place) else {
-            unreachable()
-        };
-        writeln!(f, "{place} {instr}")?;
-    }
-    Ok(())
+    write_numbered(
+        f,
+        card.thread_len(processor),
+        |place| card.instr(processor, place),
+    )
 }

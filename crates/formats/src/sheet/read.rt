@@ -5,25 +5,22 @@ ghost use Rattle.formats.specs.Schedules.{schedule_of};
 
 use crate::moves::Move;
 use crate::sheet::Sheet;
-use crate::sheet::parts::{count_in, move_byte};
+use crate::sheet::moves::Moves;
 use model::Kind;
 
-impl Sheet<'_> {
+impl<'a> Sheet<'a> {
     // The kind of machine to play on.
     pub fn kind(&self) -> Kind
         ensures { result ≡ (schedule_of self.now).kind }
     {
-        match Kind::numbered(self.bytes[0]) {
-            Some(kind) => kind,
-            None => unreachable(),
-        }
+        Kind::try_from(self.bytes[0]).unwrap()
     }
 
     // How many moves there are.
     pub fn len(&self) -> u8
         ensures { result ≡ length (schedule_of self.now).moves }
     {
-        count_in(self.bytes)
+        self.moves().len()
     }
 
     // A move, or none past the last.
@@ -33,7 +30,12 @@ impl Sheet<'_> {
         if index >= self.len() {
             return None;
         }
-        let at = move_byte(index as usize);
-        Move::decode(&self.bytes[at..at + 3])
+        self.moves().get(index).ok()
+    }
+
+    fn moves(&self) -> Moves<'a>
+        ensures { result.bytes.now ≡ self.now.bytes.now }
+    {
+        Moves { bytes: self.bytes }
     }
 }

@@ -1,10 +1,10 @@
 // A sheet in plain text.
 ghost use Rattle.std.specs.Fmt.{DisplaysOnOk};
 ghost use Rattle.std.specs.Prelude.{Some};
-ghost use Rattle.formats.specs.Listings.{numbered, schedule_text, schedule_title};
-ghost use Rattle.formats.specs.Moves.{move_text};
+ghost use Rattle.formats.specs.Listings.{schedule_text, schedule_title};
 ghost use Rattle.formats.specs.Schedules.{schedule_of};
 
+use crate::numbered::write_numbered;
 use crate::sheet::Sheet;
 use model::Kind;
 use std::fmt;
@@ -14,7 +14,7 @@ impl fmt::Display for Sheet<'_> {
 
     fn fmt<W: fmt::Write>(&self, f: &mut fmt::Formatter<W>) -> fmt::Result {
         write_title(f, self.kind(), self.len())?;
-        write_moves(self, f)
+        write_numbered(f, self.len(), |index| self.get(index))
     }
 }
 
@@ -22,17 +22,4 @@ fn write_title<W: fmt::Write>(f: &mut fmt::Formatter<W>, kind: Kind, count: u8) 
     ensures { DisplaysOnOk W.Write.write_str_gives f.old result (Some (schedule_title kind count)) f.new }
 {
     writeln!(f, "kind {kind} moves {count}")
-}
-
-// A line for each move.
-fn write_moves<W: fmt::Write>(sheet: &Sheet<'_>, f: &mut fmt::Formatter<W>) -> fmt::Result
-    ensures { DisplaysOnOk W.Write.write_str_gives f.old result (Some (numbered move_text 0 (schedule_of sheet.now).moves)) f.new }
-{
-    for index in 0..sheet.len() {
-        let Some(next) = sheet.get(index) else {
-            unreachable()
-        };
-        writeln!(f, "{index} {next}")?;
-    }
-    Ok(())
 }

@@ -1,4 +1,4 @@
-use Rattle.std.proofs.Common.{◌≡◌, ◌+◌, true, ◌++◌, refl, ap, arith}
+use Rattle.std.proofs.Common.{◌+◌, true, ◌++◌, refl}
 use Rattle.std.proofs.Output.{has_written_of_eq, has_written_append}
 use Rattle.formats.specs.Listings.{thread_text, threads_text}
 use Rattle.formats.specs.Programs.{program_of}
@@ -15,10 +15,3 @@ loop-processor-preserved g c plain =
     has_written_of_eq took f (threads_text prog p ++ thread_text prog p) (threads_text prog (p + 1)) c.write_thread.new.f (threads_more prog p)
     (has_written_append took f (threads_text prog p) c.loop-processor.f (thread_text prog p) c.write_thread.new.f so_far
     (c.in_ok-write_thread.ensures so_far.plain (refl {a = true})))
-
-pub returns : goal.returns
-returns g c plain ok =
-    let prog = program_of c.args.card.now in
-    let all : c.loop-processor.processor ≡ prog.processors = omega (arith, c.processors-processor-end.ensures.value) in
-    has_written_of_eq g.W.Write.write_str_gives c.args.f.now (threads_text prog c.loop-processor.processor) (threads_text prog prog.processors) c.loop-processor.f
-    (ap (threads_text prog) all) (c.loop-processor.invariant plain)

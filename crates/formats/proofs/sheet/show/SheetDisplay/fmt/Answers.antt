@@ -1,4 +1,4 @@
-use Rattle.std.proofs.Common.{true, length, refl, ap, ◌∙◌}
+use Rattle.std.proofs.Common.{true, length, sym, refl, ap, ◌∙◌, rules}
 use Rattle.std.proofs.Output.{has_written_of_eq, has_written_append}
 use Rattle.formats.specs.Listings.{numbered, schedule_title}
 use Rattle.formats.specs.Moves.{move_text}
@@ -14,5 +14,5 @@ returns-clause-writes g c plain ok =
     let title =
     has_written_of_eq took f (schedule_title c.kind.result c.len.result) (schedule_title plan.kind (length plan.moves)) c.write_title.new.f same
     (c.in_ok-write_title.ensures plain (refl {a = true})) in
-    has_written_append took f (schedule_title plan.kind (length plan.moves)) c.write_title.new.f (numbered move_text 0 plan.moves) c.write_moves.new.f
-    title (c.write_moves.ensures title.plain ok)
+    has_written_append took f (schedule_title plan.kind (length plan.moves)) c.write_title.new.f (numbered move_text 0 plan.moves) c.write_numbered.new.f
+    title (c.write_numbered.ensures move_text plan.moves (λ x. refl) (record { len = sym c.len-2.ensures; each = λ i item h post. search rules }) title.plain ok)

@@ -1,6 +1,0 @@
-use Rattle.formats.specs.Cards.{processors_in, thread_fault}
-use Rattle.formats.proofs.Firsts.{Pending}
-use Rattle.formats.proofs.card.check.threads_fault.Given as goal
-
-abbrev pub invariant-loop-processor : goal.invariant-loop-processor
-invariant-loop-processor l = Pending (thread_fault l.bytes) l.processor (processors_in l.bytes)

@@ -1,6 +1,0 @@
-use Rattle.formats.specs.Sheets.{move_fault, moves_in}
-use Rattle.formats.proofs.Firsts.{Pending}
-use Rattle.formats.proofs.sheet.check.moves_fault.Given as goal
-
-abbrev pub invariant-loop-index : goal.invariant-loop-index
-invariant-loop-index l = Pending (move_fault l.bytes) l.index (moves_in l.bytes)
