@@ -1,9 +1,9 @@
 -- What the calls of WMM make of an eager machine.
-use Rattle.std.specs.Prelude.{◌≡◌, ℕ, zero, suc, ◌+◌, ◌<◌, ◌≤◌, Bool, true, false, cond, not, ◌&&◌, ◌⊎◌, List, [], ◌∷◌, ◌++◌, length, Some, None, Err, Option, ◌==◌, ◌≢◌, nat_le, nat_lt}
-use Rattle.std.proofs.Common.{inl, inr, subst, ◌∙◌, arith}
+use Rattle.std.specs.Prelude.{◌≡◌, ℕ, zero, suc, ◌+◌, ◌<◌, ◌≤◌, Bool, true, false, cond, not, ◌&&◌, List, [], ◌∷◌, ◌++◌, length, Some, None, Option, ◌==◌, ◌≢◌, nat_le, nat_lt}
+use Rattle.std.proofs.Common.{◌∙◌, arith}
 use Rattle.std.proofs.Math.Path.{refl, sym, ap, fun_ext}
 use Rattle.std.proofs.lemmas.List.{nil_from_length}
-use Rattle.std.proofs.lemmas.Bool.{and_from, and_parts, and_right, cases_lt, cond-true, eq-eqb, eqb-false, leb-true, lt-ltb, ltb-false, ltb-true, ne_eqb}
+use Rattle.std.proofs.lemmas.Bool.{and_from, and_right, cond-true, eq-eqb, eqb-false, lt-ltb, ltb-true}
 use Rattle.kinds.specs.Kinds.{choice_of}
 use Rattle.model.specs.Lists.{oldest, none_of, upd, without}
 use Rattle.model.proofs.Lists.{upd_all, upd_same, upd_other, length_without, oldest_pushed}
@@ -13,7 +13,7 @@ use Rattle.model.specs.declared.fault.Refusal.TheVariants.{Held as HeldBack, NoC
 use Rattle.model.specs.declared.memory.Origin.{Origin}
 use Rattle.model.specs.declared.memory.StaleCopy.{StaleCopy}
 use Rattle.model.specs.declared.memory.WaitingStore.{WaitingStore}
-use Rattle.port.specs.Calls.{Outcome, gives, refuses, fault, unless, map_refusal, spent_refusal, landing_found, landing_outcome, put_taken, put_outcome, counts_answer, answered}
+use Rattle.port.specs.Calls.{Outcome, gives, refuses, unless, map_refusal, spent_refusal, landing_found, landing_outcome, put_taken, put_outcome}
 use Rattle.port.specs.Holdings.{Held, total, store_at, copy_at, store_of, after_put, after_direct, after_landing, landed, shown, may_keep, overwritten, keeping}
 use Rattle.port.specs.Laws.{Sound}
 use Rattle.port.specs.declared.stored.Stored.{Stored}
@@ -84,14 +84,6 @@ landed_eagerly h none p a x g k e d = eager_landing h none p a ∙ ap (after (λ
 
 -- ## Puts
 
--- counts are refused only of a processor above 3
-pub counts_refused : (h : Held) (p : ℕ) (f : Fault) → Err f ≡ counts_answer h p → 4 ≤ p
-counts_refused h p f e = go (length (h.waits p), length (h.copies p)) (nat_lt p 4) refl e
-  where
-    go : (x : ℕ × ℕ) (b : Bool) → nat_lt p 4 ≡ b → Err f ≡ answered (cond b None (Some NoCore)) p x → 4 ≤ p
-    go x true q d = let z : ◌≡◌ {A = ℕ} 0 1 = cc in absurd (omega arith)
-    go x false q d = ltb-false p 4 q
-
 -- what is known of a put that WMM takes
 pub record Taken (h : Held) (p a word place : ℕ) (x : Stored) (g : Held) : Type 0 where
   pub core : p < 4
@@ -101,20 +93,6 @@ pub record Taken (h : Held) (p a word place : ℕ) (x : Stored) (g : Held) : Typ
   pub outcome : put_outcome (eager_choice h) h p a word place ≡ put_taken (eager_choice h) h p (store_of p a word place) (length (h.waits p) == 0)
 
 module _ (h : Held) (sound : Sound h) (p a word place : ℕ) where
-  -- the limit comes last
-  pub full_refused : full h p a ≡ true → put_outcome (eager_choice h) h p a word place ≡ refuses (fault HeldBack p)
-  full_refused e =
-      let i = and_parts (nat_le 2 (length (h.waits p))) (nat_lt a 8 && nat_lt (total h) 64) e in
-      let j = and_parts (nat_lt a 8) (nat_lt (total h) 64) i.1 in
-      let taken = put_taken (eager_choice h) h p (store_of p a word place) (length (h.waits p) == 0) in
-      on_map p a (unless (spent_refusal h) p (unless ((eager_choice h).refuses_put p a) p taken)) (core (cases_lt p 4) (leb-true 2 (length (h.waits p)) i.0)) (ltb-true a 8 j.0)
-      ∙ ap (λ b. unless (cond b (Some Spent) None) p (unless ((eager_choice h).refuses_put p a) p taken)) (ne_eqb (total h) 64 (λ q. omega (arith, ltb-true (total h) 64 j.1)))
-      ∙ ap (λ b. unless (cond b (Some HeldBack) None) p taken) i.0
-    where
-      core : (p < 4) ⊎ (4 ≤ p) → 2 ≤ length (h.waits p) → p < 4
-      core (inl l) w = l
-      core (inr l) w = let n = ap length (sound.processors p l).0 in absurd (omega arith)
-
   pub put_taken_is : full h p a ≡ false → (x : Stored) (g : Held) → put_outcome (choice_of 3 h) h p a word place ≡ gives x g → Taken h p a word place x g
   put_taken_is f x g e =
       let w = store_of p a word place in
@@ -139,11 +117,11 @@ module _ (h : Held) (sound : Sound h) (p a word place : ℕ) where
     where
       exists : (b c : Bool) → cond b (cond c None (Some OffMap)) (Some NoCore) ≡ None → (b ≡ true) × (c ≡ true)
       exists true true e = (refl, refl)
-      exists true false e = let z : ◌≡◌ {A = ℕ} 0 1 = cc in absurd (omega arith)
-      exists false c e = let z : ◌≡◌ {A = ℕ} 0 1 = cc in absurd (omega arith)
+      exists true false e = absurd cc
+      exists false c e = absurd cc
 
       unspent : (b : Bool) → cond b (Some Spent) None ≡ None → b ≡ false
-      unspent true e = let z : ◌≡◌ {A = ℕ} 0 1 = cc in absurd (omega arith)
+      unspent true e = absurd cc
       unspent false e = refl
 
       below : (n : ℕ) → n ≤ 64 → (n ≢ 64) → n < 64
@@ -176,31 +154,34 @@ lands_direct h p w lp la e =
     ∙ ap (λ (keep : ℕ → Bool). gives (shown (landed (h.cell a) w)) (after_landing g p a w keep)) (keep_same h p w a)
     ∙ ap (gives (shown (landed (h.cell a) w))) (sym (direct_is_landing h p w ((eager_choice h).keeps p a) none))
 
--- ## A put that WMM has taken
+-- what WMM refuses, it refuses before a kind may
+pub put_refused : (h : Held) (p a word place : ℕ) (f : Fault) → put_outcome (choice_of 3 h) h p a word place ≡ refuses f → put_outcome (eager_choice h) h p a word place ≡ refuses f
+put_refused h p a word place f =
+    go (map_refusal p a) (spent_refusal h)
+    (unless ((eager_choice h).refuses_put p a) p (put_taken (eager_choice h) h p (store_of p a word place) (length (h.waits p) == 0)))
+  where
+    go : (o s : Option Refusal) (rest : Outcome Stored) → unless o p (unless s p (gives Waiting (after_put h p (store_of p a word place)))) ≡ refuses f → unless o p (unless s p rest) ≡ refuses f
+    go (Some r) s rest e = e
+    go None (Some r) rest e = e
+    go None None rest e = absurd cc
 
-module _ (h : Held) (p a word place : ℕ) (x : Stored) (g : Held) (t : Taken h p a word place x g) where
-  pub still_even : evens h ≤ 0 → evens g ≤ 0
-  still_even none = subst (λ k. evens k ≤ 0) (sym t.held) (even_put h p (store_of p a word place) none)
+-- ## A put that WMM has taken, and that the limit allows
 
-  pub put_waits : (length (h.waits p) ≢ 0) → put_outcome (eager_choice h) h p a word place ≡ gives x g
-  put_waits ne =
-      t.outcome ∙ ap (put_taken (eager_choice h) h p (store_of p a word place)) (ne_eqb (length (h.waits p)) 0 ne)
-      ∙ ap (λ y. gives y (after_put h p (store_of p a word place))) (sym t.waits) ∙ ap (gives x) (sym t.held)
+module _ (h : Held) (sound : Sound h) (p a word place : ℕ) (free : full h p a ≡ false) (x : Stored) (g : Held) (e : put_outcome (choice_of 3 h) h p a word place ≡ gives x g) where
+  t : Taken h p a word place x g
+  t = put_taken_is h sound p a word place free x g e
 
   landing_is : length (h.waits p) ≡ 0 → landing_outcome (eager_choice g) g p a ≡ gives (shown (landed (h.cell a) (store_of p a word place))) (after_direct h p (store_of p a word place) ((eager_choice h).keeps p a))
-  landing_is e =
+  landing_is none =
       ap (λ k. landing_outcome (eager_choice k) k p a) t.held
-      ∙ lands_direct h p (store_of p a word place) t.core t.map (nil_from_length (h.waits p) e)
+      ∙ lands_direct h p (store_of p a word place) t.core t.map (nil_from_length (h.waits p) none)
 
   pub put_lands : length (h.waits p) ≡ 0 → (y : ℕ × ℕ × Origin) (k : Held) → landing_outcome (eager_choice g) g p a ≡ gives y k → put_outcome (eager_choice h) h p a word place ≡ gives (Landed y) k
-  put_lands e y k l =
-      t.outcome ∙ ap (put_taken (eager_choice h) h p (store_of p a word place)) (eq-eqb (length (h.waits p)) 0 e) ∙ told (sym (landing_is e) ∙ l)
+  put_lands none y k l =
+      t.outcome ∙ ap (put_taken (eager_choice h) h p (store_of p a word place)) (eq-eqb (length (h.waits p)) 0 none) ∙ told (sym (landing_is none) ∙ l)
     where
       told : {u v : ℕ × ℕ × Origin} {i j : Held} → gives u i ≡ gives v j → gives (Landed u) i ≡ gives (Landed v) j
-      told e = cc
+      told q = cc
 
   pub never_refused : length (h.waits p) ≡ 0 → (f : Fault) → landing_outcome (eager_choice g) g p a ≢ refuses f
-  never_refused e f l = never (sym (landing_is e) ∙ l)
-    where
-      never : {u : ℕ × ℕ × Origin} {i : Held} → gives u i ≢ refuses f
-      never e = let z : ◌≡◌ {A = ℕ} 0 1 = cc in omega arith
+  never_refused none f l = let q = sym (landing_is none) ∙ l in cc

@@ -1,5 +1,5 @@
 -- Even processors hold no copies, whatever an eager machine is asked.
-use Rattle.std.specs.Prelude.{◌≡◌, ℕ, ◌≤◌, Bool, true, false, List, [], length, Some, None, Ok, Err, Option, Result, ◌==◌}
+use Rattle.std.specs.Prelude.{◌≡◌, ℕ, ◌≤◌, List, [], length, Some, None, Ok, Err, Option, Result}
 use Rattle.std.proofs.Common.{sym, ap, subst, arith}
 use Rattle.std.proofs.Math.Bridge.{le_prop}
 use Rattle.model.specs.Lists.{oldest, without}
@@ -8,10 +8,11 @@ use Rattle.model.specs.declared.fault.Fault.{Fault}
 use Rattle.model.specs.declared.fault.Refusal.{Refusal}
 use Rattle.model.specs.declared.memory.StaleCopy.{StaleCopy}
 use Rattle.model.specs.declared.memory.WaitingStore.{WaitingStore}
-use Rattle.port.specs.Calls.{Outcome, gives, refuses, unless, Meets, map_refusal, spent_refusal, core_refusal, old_found, old_outcome, newest_outcome, landing_found, landing_outcome, put_taken, put_outcome, reconcile_outcome}
+use Rattle.port.specs.Calls.{Outcome, gives, refuses, unless, Meets, map_refusal, spent_refusal, core_refusal, old_found, old_outcome, newest_outcome, landing_found, landing_outcome, put_outcome, reconcile_outcome}
 use Rattle.port.specs.Holdings.{Held, store_at, copy_at, older_copy, exact_copy, store_of, with_copies}
 use Rattle.machine.specs.View.{held_of, unset}
 use Rattle.machine.specs.declared.buffered.Buffered.{Buffered}
+use Rattle.kinds.specs.Kinds.{choice_of}
 use Rattle.foreign.specs.Eager.{eager_choice, evens}
 use Rattle.foreign.specs.declared.eager.Eager.{Eager}
 use Rattle.foreign.proofs.Eagerness.{fewer, even_put}
@@ -51,14 +52,10 @@ module _ (h : Held) (none : evens h ≤ 0) (p : ℕ) where
       go None = tt
       go (Some w) = none
 
-  pub even_puts : (a word place : ℕ) → Even (put_outcome (eager_choice h) h p a word place)
+  -- what WMM makes of a put
+  pub even_puts : (a word place : ℕ) → Even (put_outcome (choice_of 3 h) h p a word place)
   even_puts a word place =
-      even_unless (map_refusal p a) p _
-      (even_unless (spent_refusal h) p _ (even_unless ((eager_choice h).refuses_put p a) p _ (go (length (h.waits p) == 0))))
-    where
-      go : (b : Bool) → Even (put_taken (eager_choice h) h p (store_of p a word place) b)
-      go true = even_put h p (store_of p a word place) none
-      go false = even_put h p (store_of p a word place) none
+      even_unless (map_refusal p a) p _ (even_unless (spent_refusal h) p _ (even_put h p (store_of p a word place) none))
 
 -- ## Machines
 

@@ -1,16 +1,16 @@
 -- A processor that loads the newest sees its own store, on every kind of machine.
-use Rattle.std.specs.Prelude.{◌≡◌, ℕ, ◌<◌, Bool, true, false, cond, not, List, [], ◌∷◌, ◌++◌, Some, None, Option, ◌≢◌, refl}
-use Rattle.std.proofs.Common.{sym, ap, subst, ◌∙◌, arith}
-use Rattle.std.proofs.lemmas.Bool.{and_parts, cond-true, cond-false, eq-eqb, not-true}
+use Rattle.std.specs.Prelude.{◌≡◌, ℕ, Bool, true, false, cond, List, [], ◌∷◌, ◌++◌, Some, None, Option, refl}
+use Rattle.std.proofs.Common.{sym, ap, subst, ◌∙◌}
+use Rattle.std.proofs.lemmas.Bool.{cond-true, eq-eqb}
+use Rattle.kinds.proofs.Buffers.{youngest_none}
 use Rattle.model.specs.Lists.{none_of, youngest_else, youngest, upd}
 use Rattle.model.specs.declared.fault.Refusal.{Refusal}
 use Rattle.model.specs.declared.memory.WaitingStore.{WaitingStore}
 use Rattle.model.proofs.Lists.{upd_same}
-use Rattle.port.specs.Calls.{Choice, Outcome, gives, refuses, unless, map_refusal, spent_refusal, put_taken, put_outcome, newest_outcome}
-use Rattle.port.specs.Holdings.{Held, Value, nothing_yet, store_at, store_else, newest, after_newest, after_put, after_direct, store_of, landed}
-use Rattle.port.specs.Laws.{Bounds, Progress}
+use Rattle.port.specs.Calls.{Choice, Outcome, gives, unless, map_refusal, spent_refusal, put_taken, put_outcome, newest_outcome}
+use Rattle.port.specs.Holdings.{Held, Value, store_at, store_else, newest, after_newest, after_put, after_direct, store_of, landed}
+use Rattle.port.specs.Laws.{Bounds}
 use Rattle.port.specs.declared.stored.Stored.{Stored}
-use Rattle.port.proofs.Holdings.{on_map}
 
 -- ## The youngest
 
@@ -19,17 +19,11 @@ module _ {T : Type 0} (test : T → Bool) where
   youngest_pushed o [] x e = cond-true (test x) (Some x) o e
   youngest_pushed o (y ∷ xs) x e = youngest_pushed (cond (test y) (Some y) o) xs x e
 
-  youngest_none : (o : Option T) (xs : List T) → none_of test xs ≡ true → youngest_else test o xs ≡ o
-  youngest_none o [] n = refl
-  youngest_none o (y ∷ xs) n =
-      let b = and_parts (not (test y)) (none_of test xs) n in
-      youngest_none (cond (test y) (Some y) o) xs b.1 ∙ cond-false (test y) (Some y) o (not-true (test y) b.0)
-
 -- ## Calls that are accepted
 
 pub accepted : {X : Type 0} (o : Option Refusal) (p : ℕ) (rest : Outcome X) (x : X) (h : Held) → unless o p rest ≡ gives x h → (o ≡ None) × (rest ≡ gives x h)
 accepted None p rest x h e = (refl, e)
-accepted (Some r) p rest x h e = let z : ◌≡◌ {A = ℕ} 0 1 = cc in absurd (omega arith)
+accepted (Some r) p rest x h e = absurd cc
 
 taken : (choice : Choice) (h : Held) (p : ℕ) (w : WaitingStore) (b : Bool) (s : Stored) (g : Held) → (b ≡ true → none_of (store_at w.address) (h.waits p) ≡ true) → put_taken choice h p w b ≡ gives s g → newest g p w.address ≡ (w.word, w.origin)
 taken choice h p w true s g none e =
@@ -53,20 +47,3 @@ loads_put choice h p a word place s g v f bounds e d =
     let l = accepted (map_refusal p a) p (gives (newest g p a) (after_newest g p a)) v f d in
     let n : newest g p a ≡ v = (let q = l.1 in cc) in
     ap (λ (x : Value). x.0) (sym n ∙ t)
-
--- ## A new machine
-
--- takes every store of a processor and an address that exist
-pub takes : (choice : Choice) (p a word place : ℕ) → p < 4 → a < 8 → Progress nothing_yet choice → put_outcome choice nothing_yet p a word place ≡ put_taken choice nothing_yet p (store_of p a word place) (choice.lands p a)
-takes choice p a word place lp la progress =
-    on_map p a (unless (spent_refusal nothing_yet) p (unless (choice.refuses_put p a) p (put_taken choice nothing_yet p (store_of p a word place) (choice.lands p a)))) lp la
-    ∙ ap (λ o. unless o p (put_taken choice nothing_yet p (store_of p a word place) (choice.lands p a))) (progress.put p a refl)
-
--- so it refuses none
-pub refuses_none : (choice : Choice) (h : Held) (p a word place : ℕ) → p < 4 → a < 8 → h ≡ nothing_yet → Progress h choice → (f : _) → put_outcome choice h p a word place ≢ refuses f
-refuses_none choice h p a word place lp la new progress f e =
-    go (choice.lands p a) (sym (takes choice p a word place lp la (subst (λ g. Progress g choice) new progress)) ∙ subst (λ g. put_outcome choice g p a word place ≡ refuses f) new e)
-  where
-    go : (b : Bool) → put_taken choice nothing_yet p (store_of p a word place) b ≢ refuses f
-    go true q = let z : ◌≡◌ {A = ℕ} 0 1 = cc in omega arith
-    go false q = let z : ◌≡◌ {A = ℕ} 0 1 = cc in omega arith

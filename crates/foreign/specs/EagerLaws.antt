@@ -1,18 +1,15 @@
 -- The laws hold of the eager kind.
-use Rattle.std.specs.Prelude.{Bool, true, false, cond, length, Some, None, nat_le}
+use Rattle.std.specs.Prelude.{cond, length, Some, None, nat_le}
 use Rattle.std.proofs.Common.{refl, ap}
 use Rattle.std.proofs.lemmas.List.{nil_from_length}
 use Rattle.std.proofs.lemmas.Bool.{and_parts, eqb-true, false≢true}
 use Rattle.model.specs.Lists.{none_of}
 use Rattle.model.specs.Tables.{wmm_table}
 use Rattle.model.specs.declared.fault.Refusal.TheVariants.{Held as HeldBack}
+use Rattle.kinds.proofs.Laws.{own}
 use Rattle.port.specs.Holdings.{Held, store_at, may_keep}
-use Rattle.port.specs.Laws.{Own, Bounds, Progress, NoCopies, InOrder, Direct}
+use Rattle.port.specs.Laws.{Bounds, Progress, NoCopies, InOrder, Direct}
 use Rattle.foreign.specs.Eager.{odd, eager_choice}
-
-own : (b : Bool) → Own (cond b (Some HeldBack) None)
-own true = refl
-own false = tt
 
 pub eager_bounds : (h : Held) → Bounds h (eager_choice h)
 eager_bounds h =

@@ -3,7 +3,7 @@ ghost use Rattle.std.specs.Prelude.{◌≤◌};
 ghost use Rattle.machine.specs.View.{held_of};
 ghost use Rattle.foreign.specs.Eager.{evens};
 
-use machine::Buffered;
+use machine::Wmm;
 
 mod making;
 mod serving;
@@ -14,6 +14,6 @@ mod steps;
 // of the port alone.
 #[derive(Drop)]
 pub struct Eager {
-    below: Buffered<3>,
+    below: Wmm,
     ghost odd: { evens (held_of below) ≤ 0 },
 }

@@ -8,6 +8,6 @@ mod uses;
 pub use eager::Eager;
 pub use passing::Passing;
 pub use uses::{
-    eager_is_published, is_published, keeps_store_order, layers_keep_store_order, on_eager,
-    on_layers, on_pso, on_sc, on_tso, on_wmm, stored,
+    eager_is_published, is_published, keeps_store_order, layers_keep_store_order, on_each,
+    on_layers, on_new, stored,
 };

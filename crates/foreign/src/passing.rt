@@ -78,11 +78,11 @@ impl<M: Port> Memory for Passing<M> {
 impl<M: Port> Port for Passing<M> {
     const NUMBER: u8 = M::NUMBER;
 
+    ghost NUMBER = { M.Port.NUMBER };
+
     const TABLE: Table = M::TABLE;
 
-    ghost number = { M.Port.number };
-
-    ghost table = { M.Port.table };
+    ghost TABLE = { M.Port.TABLE };
 
     ghost sound = { λ m. M.Port.sound m.below };
 
@@ -102,12 +102,4 @@ impl<M: Port> Port for Passing<M> {
         record { put = below.put; landing = below.landing } };
 
     ghost direct = { λ m. M.Port.direct m.below };
-
-    fn kind_number() -> u8 {
-        M::kind_number()
-    }
-
-    fn ordering() -> Table {
-        M::ordering()
-    }
 }

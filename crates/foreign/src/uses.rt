@@ -1,5 +1,5 @@
 // Callers of machines: each makes one, stores a word, loads it back and lets the machine go.
-ghost use Rattle.std.specs.Prelude.{◌≡◌, ◌<◌, true, false, IfOk, Ok, nat_lt};
+ghost use Rattle.std.specs.Prelude.{◌≡◌, ◌<◌, true, false, IfOk, Ok, nat_lt, replicate};
 ghost use Rattle.port.specs.Holdings.{nothing_yet};
 ghost use Rattle.port.specs.Laws.{in_order};
 
@@ -7,7 +7,7 @@ use crate::eager::Eager;
 use crate::passing::Passing;
 use machine::{Pso, Sc, Tso, Wmm};
 use model::{Fault, Order};
-use port::{Memory, Port};
+use port::{Fresh, Memory, Port};
 use std::alloc::{AllocError, Global};
 
 // Stores a word, and loads the newest at the same address by the same processor. A machine of any
@@ -26,47 +26,28 @@ fn once<M: Port + Drop>(mut machine: M, word: u32) -> u32
     requires { M.Memory.held machine ≡ nothing_yet }
     ensures { result ≡ word }
 {
-    match stored(&mut machine, 0, 1, word) {
-        Ok(read) => read,
-        Err(_) => unreachable(),
-    }
+    stored(&mut machine, 0, 1, word).unwrap()
 }
 
-// A machine of each kind answers the word, once there is memory for it.
-pub fn on_sc(heap: Global, word: u32) -> Result<u32, AllocError>
+// A new machine of any kind answers the word, once there is memory for it.
+pub fn on_new<M: Port + Fresh + Drop>(heap: Global, word: u32) -> Result<u32, AllocError>
     ensures { IfOk result (λ x. x ≡ word) }
 {
-    let machine = Sc::new(heap)?;
+    let machine = M::fresh(heap)?;
     Ok(once(machine, word))
 }
 
-pub fn on_tso(heap: Global, word: u32) -> Result<u32, AllocError>
-    ensures { IfOk result (λ x. x ≡ word) }
+// So does one of each of the four kinds, and of the kind that is none of them.
+pub fn on_each(heap: Global, word: u32) -> Result<[u32; 5], AllocError>
+    ensures { IfOk result (λ words. words ≡ replicate 5 word) }
 {
-    let machine = Tso::new(heap)?;
-    Ok(once(machine, word))
-}
-
-pub fn on_pso(heap: Global, word: u32) -> Result<u32, AllocError>
-    ensures { IfOk result (λ x. x ≡ word) }
-{
-    let machine = Pso::new(heap)?;
-    Ok(once(machine, word))
-}
-
-pub fn on_wmm(heap: Global, word: u32) -> Result<u32, AllocError>
-    ensures { IfOk result (λ x. x ≡ word) }
-{
-    let machine = Wmm::new(heap)?;
-    Ok(once(machine, word))
-}
-
-// So does a machine of the kind that is none of the four.
-pub fn on_eager(heap: Global, word: u32) -> Result<u32, AllocError>
-    ensures { IfOk result (λ x. x ≡ word) }
-{
-    let machine = Eager::new(heap)?;
-    Ok(once(machine, word))
+    Ok([
+        on_new::<Sc>(heap, word)?,
+        on_new::<Tso>(heap, word)?,
+        on_new::<Pso>(heap, word)?,
+        on_new::<Wmm>(heap, word)?,
+        on_new::<Eager>(heap, word)?,
+    ])
 }
 
 // So does a layer over a layer over a machine.
@@ -80,9 +61,9 @@ pub fn on_layers(heap: Global, word: u32) -> Result<u32, AllocError>
 
 // Whether a processor's stores land in their order on every machine of the kind.
 pub fn keeps_store_order<M: Port>() -> bool
-    ensures { result ≡ in_order M.Port.table }
+    ensures { result ≡ in_order M.Port.TABLE }
 {
-    M::ordering().store.store == Order::Always
+    M::TABLE.store.store == Order::Always
 }
 
 // Layers over TSO keep the order of stores, since TSO does.
@@ -94,9 +75,9 @@ pub fn layers_keep_store_order() -> bool
 
 // Whether the kind is one of the four.
 pub fn is_published<M: Port>() -> bool
-    ensures { result ≡ nat_lt M.Port.number 4 }
+    ensures { result ≡ nat_lt M.Port.NUMBER 4 }
 {
-    M::kind_number() < 4
+    M::NUMBER < 4
 }
 
 // A layer over an eager machine is none of them.
@@ -104,4 +85,19 @@ pub fn eager_is_published() -> bool
     ensures { result ≡ false }
 {
     is_published::<Passing<Eager>>()
+}
+
+#[cfg(test)]
+mod tests {
+    use super::{on_each, on_layers};
+    use std::test::Fail;
+
+    // That there is memory for a machine no contract can say.
+    #[test]
+    fn machines_are_made(rt: HostRuntime) -> Result<(), Fail> {
+        let heap = rt.alloc();
+        assert_eq!(rt; on_each(heap, 7)?, [7; 5]);
+        assert_eq!(rt; on_layers(heap, 7)?, 7);
+        Ok(())
+    }
 }

@@ -137,7 +137,7 @@ module _ (k : ℕ) (h : Held) (sound : Sound h) (plain : Plain k h) where
   no_landing p a lp la e v t r =
       let f = rule_fires k (dequeue p a v) (forget h) t fit r in
       let o : ◌≡◌ {A = Option (ℕ × ℕ)} None (Some (a, v)) = sym (oldest_map store_entry (entry_at a) (h.waits p) ∙ ap (mapped store_entry) e) ∙ f.0 in
-      let z : ◌≡◌ {A = ℕ} 0 1 = cc in omega arith
+      cc
 
   pub no_landing_behind : (p a : ℕ) (w : WaitingStore) → p < 4 → a < 8 → oldest (store_at a) (h.waits p) ≡ Some w → (lands_in_order k && behind (store_at a) (h.waits p)) ≡ true → (v : ℕ) (t : State) → Rule k (dequeue p a v) (forget h) t → ⊥
   no_landing_behind p a w lp la e n v t r =
@@ -174,7 +174,7 @@ module _ (k : ℕ) (h : Held) (sound : Sound h) (plain : Plain k h) where
       go true q = refl
       go false q =
           let n = ap (oldest (exact_copy a s)) (nil_from_length (h.copies p) (plain.1 p q)) in
-          let z : ◌≡◌ {A = ℕ} 0 1 = cc in absurd (omega arith)
+          absurd cc
 
   pub each_stale : (p a : ℕ) → p < 4 → a < 8 → EachStale k p a h
   each_stale p a lp la v t r =

@@ -60,7 +60,7 @@ module _ {T : Type 0} (test : T → Bool) where
       youngest_none (cond (test x) (Some x) o) xs e.1 ∙ cond-false (test x) (Some x) o (not-true (test x) e.0)
 
   pub all_oldest : (P : T → Type 0) (xs : List T) (x : T) → AllByRecursion P xs → oldest test xs ≡ Some x → P x
-  all_oldest P [] x h e = let z : ◌≡◌ {A = ℕ} 0 1 = cc in absurd (omega arith)
+  all_oldest P [] x h e = absurd cc
   all_oldest P (y ∷ xs) x h e = go (test y) e (λ r. all_oldest P xs x h.1 r)
     where
       go : (b : Bool) → cond b (Some y) (oldest test xs) ≡ Some x → (oldest test xs ≡ Some x → P x) → P x
@@ -133,7 +133,7 @@ module _ (a : ℕ) where
   youngest_there (youngest_later c w rest v r) = and_right (not (eqb c a)) (none_of (entry_at a) rest) (youngest_there r)
 
   pub oldest_from_is : (b : Buffer) (e : ℕ × ℕ) → oldest (entry_at a) b ≡ Some e → RmOldest a b e.1 (without_oldest (entry_at a) b)
-  oldest_from_is [] e q = let z : ◌≡◌ {A = ℕ} 0 1 = cc in absurd (omega arith)
+  oldest_from_is [] e q = absurd cc
   oldest_from_is (x ∷ b) e q = go (eqb x.0 a) refl q (λ r. oldest_from_is b e r)
     where
       go : (t : Bool) → eqb x.0 a ≡ t → cond t (Some x) (oldest (entry_at a) b) ≡ Some e → (oldest (entry_at a) b ≡ Some e → RmOldest a b e.1 (without_oldest (entry_at a) b)) → RmOldest a (x ∷ b) e.1 (cond t b (x ∷ without_oldest (entry_at a) b))
@@ -248,7 +248,7 @@ module _ (a : ℕ) where
   Gets cs c left = GetRandom a (map copy_entry cs) c.cell.word (map copy_entry left)
 
   pub random_from : (s : ℕ) (cs : List StaleCopy) → Pairs Rises cs → (c : StaleCopy) → oldest (exact_copy a s) cs ≡ Some c → GetRandom a (map copy_entry cs) c.cell.word (map copy_entry (without (older_copy a s) cs))
-  random_from s [] rises c e = let z : ◌≡◌ {A = ℕ} 0 1 = cc in absurd (omega arith)
+  random_from s [] rises c e = absurd cc
   random_from s (d ∷ cs) rises c e = go (eqb d.address a) refl (eqb d.cell.serial s) refl e (λ r. random_from s cs rises.1 c r)
     where
       go : (t : Bool) → eqb d.address a ≡ t → (u : Bool) → eqb d.cell.serial s ≡ u → cond (t && u) (Some d) (oldest (exact_copy a s) cs) ≡ Some c

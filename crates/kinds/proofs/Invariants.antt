@@ -1,7 +1,8 @@
 -- Every call keeps what the four machines keep true.
 use Rattle.std.proofs.Common.{◌≡◌, ℕ, ◌+◌, ◌<◌, ◌≤◌, Bool, true, false, cond, not, ◌&&◌, ◌||◌, eqb, ltb, List, [], ◌∷◌, ◌++◌, length, Some, sym, refl, ap, ◌∙◌, subst, arith}
-use Rattle.std.specs.List.{AllByRecursion}
+use Rattle.std.specs.List.{AllByRecursion, list_all}
 use Rattle.std.proofs.lemmas.List.{length_push, nil_from_length}
+use Rattle.std.proofs.lemmas.List.Folds.{list_all-append}
 use Rattle.std.proofs.lemmas.Bool.{and_parts, and_from, ltb-true, lt-ltb, eqb-true, eqb-false, eq-eqb, ne_eqb, both_ways}
 use Rattle.model.specs.Lists.{upd, none_of, oldest, without_oldest, without, Pairs}
 use Rattle.model.specs.Memory.{initial_cell}
@@ -12,39 +13,37 @@ use Rattle.model.proofs.Lists.{upd_all, upd_same, length_without, length_without
 use Rattle.port.specs.Holdings.{Held, nothing_yet, serials, total, store_at, copy_at, landed, overwritten, may_keep, keeping, with_copies, after_put, after_direct, after_landing}
 use Rattle.port.specs.Laws.{Sound}
 use Rattle.port.proofs.Holdings.{serials_land, total_put, total_landing, direct_is_landing, may_still}
-use Rattle.kinds.specs.Invariants.{all_of, stale_copy, fresher, stale_copies, Stale, Few}
+use Rattle.kinds.specs.Invariants.{stale_copy, fresher, stale_copies, Stale, Few}
 use Rattle.kinds.specs.Kinds.{lands_directly, keeps_copies, choice_of, Plain}
 
 -- ## Copies
 
-all_without : {T : Type 0} (f test : T → Bool) (xs : List T) → all_of f xs ≡ true → all_of f (without test xs) ≡ true
+all_without : {T : Type 0} (f test : T → Bool) (xs : List T) → list_all f xs ≡ true → list_all f (without test xs) ≡ true
 all_without f test [] h = refl
-all_without f test (x ∷ xs) h = go (test x) (all_without f test xs (and_parts (f x) (all_of f xs) h).1)
+all_without f test (x ∷ xs) h = go (test x) (all_without f test xs (and_parts (f x) (list_all f xs) h).1)
   where
-    go : (b : Bool) → all_of f (without test xs) ≡ true → all_of f (cond b (without test xs) (x ∷ without test xs)) ≡ true
+    go : (b : Bool) → list_all f (without test xs) ≡ true → list_all f (cond b (without test xs) (x ∷ without test xs)) ≡ true
     go true r = r
-    go false r = and_from (f x) (all_of f (without test xs)) (and_parts (f x) (all_of f xs) h).0 r
+    go false r = and_from (f x) (list_all f (without test xs)) (and_parts (f x) (list_all f xs) h).0 r
 
-all_push : {T : Type 0} (f : T → Bool) (xs : List T) (y : T) → all_of f xs ≡ true → f y ≡ true → all_of f (xs ++ y ∷ []) ≡ true
-all_push f [] y h e = and_from (f y) true e refl
-all_push f (x ∷ xs) y h e =
-    and_from (f x) (all_of f (xs ++ y ∷ [])) (and_parts (f x) (all_of f xs) h).0 (all_push f xs y (and_parts (f x) (all_of f xs) h).1 e)
+all_push : {T : Type 0} (f : T → Bool) (xs : List T) (y : T) → list_all f xs ≡ true → f y ≡ true → list_all f (xs ++ y ∷ []) ≡ true
+all_push f xs y h e = list_all-append f xs (y ∷ []) ∙ and_from (list_all f xs) (f y && true) h (and_from (f y) true e refl)
 
 -- the parts of stale_copies
 record First (cell : ℕ → Cell) (ws : List WaitingStore) (c : StaleCopy) (cs : List StaleCopy) : Type 0 where
   stale : stale_copy cell ws c ≡ true
-  rises : all_of (fresher c) cs ≡ true
+  rises : list_all (fresher c) cs ≡ true
   rest : stale_copies cell ws cs ≡ true
 
 first : (cell : ℕ → Cell) (ws : List WaitingStore) (c : StaleCopy) (cs : List StaleCopy) → stale_copies cell ws (c ∷ cs) ≡ true → First cell ws c cs
 first cell ws c cs h =
-    let o = and_parts (stale_copy cell ws c) (all_of (fresher c) cs && stale_copies cell ws cs) h in
-    let r = and_parts (all_of (fresher c) cs) (stale_copies cell ws cs) o.1 in
+    let o = and_parts (stale_copy cell ws c) (list_all (fresher c) cs && stale_copies cell ws cs) h in
+    let r = and_parts (list_all (fresher c) cs) (stale_copies cell ws cs) o.1 in
     record { stale = o.0; rises = r.0; rest = r.1 }
 
 firstly : (cell : ℕ → Cell) (ws : List WaitingStore) (c : StaleCopy) (cs : List StaleCopy) → First cell ws c cs → stale_copies cell ws (c ∷ cs) ≡ true
 firstly cell ws c cs f =
-    and_from (stale_copy cell ws c) _ f.stale (and_from (all_of (fresher c) cs) (stale_copies cell ws cs) f.rises f.rest)
+    and_from (stale_copy cell ws c) _ f.stale (and_from (list_all (fresher c) cs) (stale_copies cell ws cs) f.rises f.rest)
 
 -- those that stay are as stale as they were
 stay : (cell cell' : ℕ → Cell) (ws ws' : List WaitingStore) (test : StaleCopy → Bool) (cs : List StaleCopy)
@@ -240,9 +239,9 @@ module _ (cell : ℕ → Cell) (ws : List WaitingStore) where
       let f = first cell ws c cs h in
       ((and_parts (ltb c.cell.serial (cell c.address).serial) (none_of (store_at c.address) ws) f.stale).1, apart_from cs f.rest)
 
-  above_from : (c : StaleCopy) (cs : List StaleCopy) → all_of (fresher c) cs ≡ true → AllByRecursion (λ d. c.address ≡ d.address → c.cell.serial < d.cell.serial) cs
+  above_from : (c : StaleCopy) (cs : List StaleCopy) → list_all (fresher c) cs ≡ true → AllByRecursion (λ d. c.address ≡ d.address → c.cell.serial < d.cell.serial) cs
   above_from c [] h = tt
-  above_from c (d ∷ cs) h = (above (and_parts (fresher c d) (all_of (fresher c) cs) h).0, above_from c cs (and_parts (fresher c d) (all_of (fresher c) cs) h).1)
+  above_from c (d ∷ cs) h = (above (and_parts (fresher c d) (list_all (fresher c) cs) h).0, above_from c cs (and_parts (fresher c d) (list_all (fresher c) cs) h).1)
     where
       above : fresher c d ≡ true → c.address ≡ d.address → c.cell.serial < d.cell.serial
       above f e = ltb-true c.cell.serial d.cell.serial (sym (ap (λ b. not b || ltb c.cell.serial d.cell.serial) (eq-eqb c.address d.address e)) ∙ f)

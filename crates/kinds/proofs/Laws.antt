@@ -62,7 +62,8 @@ floor_of (suc (suc (suc k))) = floor_by wmm_table wmm_table refl
 
 -- ## The laws
 
-own : (b : Bool) → Own (cond b (Some HeldBack) None)
+-- where a kind refuses, it is with the number of its own
+pub own : (b : Bool) → Own (cond b (Some HeldBack) None)
 own true = refl
 own false = tt
 
@@ -117,10 +118,10 @@ module _ (k : ℕ) (h : Held) (plain : Plain k h) where
         where
           go : (c : Bool) → eqb w.address a ≡ c → cond (not c) (Some HeldBack) None ≡ None → w.address ≡ a
           go true q r = eqb-true w.address a q
-          go false q r = let z : ◌≡◌ {A = ℕ} 0 1 = cc in absurd (omega arith)
+          go false q r = absurd cc
 
       go : in_order (table_of k) ≡ true → (p a : ℕ) (w : WaitingStore) (ws : List WaitingStore) → h.waits p ≡ w ∷ ws → none_of (store_at a) (w ∷ ws) ≡ false → (choice_of k h).refuses_landing p a ≡ None → (d : Bool) → lands_directly k ≡ d → w.address ≡ a
-      go e p a w ws q n free true d = let z : w ∷ ws ≡ [] = sym q ∙ empty p d in let o : ◌≡◌ {A = ℕ} 0 1 = cc in absurd (omega arith)
+      go e p a w ws q n free true d = let z : w ∷ ws ≡ [] = sym q ∙ empty p d in absurd cc
       go e p a w ws q n free false d =
           first (lands_in_order k) a w (order_is k e d)
           (sym (ap (λ l. cond (lands_in_order k && behind (store_at a) l) (Some HeldBack) None) q) ∙ free)

@@ -86,7 +86,7 @@ fires_sc (commit i) s t fit f = subst (Sc (commit i) s) (sym f.1) (sc-Com i s)
 fires_sc (reconcile i) s t fit f = subst (Sc (reconcile i) s) (sym (f ∙ same s i [] (fit.copyless refl i))) (sc-Rec i s)
 fires_sc (dequeue i a v) s t fit f =
     let n = ap (oldest (entry_at a)) (sym (fit.bufferless refl i)) ∙ f.0 in
-    let z : ◌≡◌ {A = ℕ} 0 1 = cc in absurd (omega arith)
+    absurd cc
 
 -- ## TSO and PSO
 
@@ -127,7 +127,7 @@ fires_tso : (x : Action) (s t : State) → Fit false false s → Fires false tru
 fires_tso = fires_buffering true Tso tso (λ i a v s e n. tso-DeqSb i a v s (without_oldest (entry_at a) (s.sb i)) (first a v (s.sb i) e n))
   where
     first : (a v : ℕ) (b : Buffer) → oldest (entry_at a) b ≡ Some (a, v) → behind (entry_at a) b ≡ false → b ≡ (a, v) ∷ without_oldest (entry_at a) b
-    first a v [] e n = let z : ◌≡◌ {A = ℕ} 0 1 = cc in absurd (omega arith)
+    first a v [] e n = absurd cc
     first a v (x ∷ b) e n =
         let t = not-false (eqb x.0 a) n in
         let s : Some x ≡ Some (a, v) = sym (cond-true (eqb x.0 a) (Some x) (oldest (entry_at a) b) t) ∙ e in

@@ -1,5 +1,6 @@
 -- What the four machines keep true of all that they hold, as facts with one proof, so that they can stand in a type.
 use Rattle.std.specs.Prelude.{◌≡◌, ℕ, ◌≤◌, Bool, true, not, ◌&&◌, ◌||◌, List, [], ◌∷◌, length, ◌==◌, nat_lt}
+use Rattle.std.specs.List.{list_all}
 use Rattle.model.specs.Lists.{none_of}
 use Rattle.model.specs.declared.memory.Cell.{Cell}
 use Rattle.model.specs.declared.memory.StaleCopy.{StaleCopy}
@@ -14,13 +15,9 @@ stale_copy cell ws c = nat_lt c.cell.serial (cell c.address).serial && none_of (
 abbrev pub fresher : StaleCopy → StaleCopy → Bool
 fresher c d = not (c.address == d.address) || nat_lt c.cell.serial d.cell.serial
 
-abbrev pub all_of : {T : Type 0} → (T → Bool) → List T → Bool
-all_of test [] = true
-all_of test (x ∷ xs) = test x && all_of test xs
-
 abbrev pub stale_copies : (ℕ → Cell) → List WaitingStore → List StaleCopy → Bool
 stale_copies cell ws [] = true
-stale_copies cell ws (c ∷ cs) = stale_copy cell ws c && (all_of (fresher c) cs && stale_copies cell ws cs)
+stale_copies cell ws (c ∷ cs) = stale_copy cell ws c && (list_all (fresher c) cs && stale_copies cell ws cs)
 
 -- each copy is stale, and each processor's serials rise at each address
 abbrev pub Stale : Held → Type 0

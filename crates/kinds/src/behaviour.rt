@@ -1,4 +1,6 @@
 // What tells the four kinds apart, by their numbers.
+// The number is a const parameter of each machine, which can be no enum, and any u8 is answered
+// for.
 ghost use Rattle.std.specs.Prelude.{◌≡◌};
 ghost use Rattle.kinds.specs.Kinds.{keeps_copies, lands_directly, lands_in_order};
 

@@ -9,12 +9,11 @@ const ALWAYS: Row = Row {
     commit: Order::Always,
 };
 
-// A store that later loads may overtake, and later stores at other addresses.
+// A store that later loads and Reconciles may overtake.
 const STORE: Row = Row {
     load: Order::Never,
-    store: Order::SameAddress,
     reconcile: Order::Never,
-    commit: Order::Always,
+    ..ALWAYS
 };
 
 pub const SC_TABLE: Table = Table {
@@ -24,38 +23,30 @@ pub const SC_TABLE: Table = Table {
     commit: ALWAYS,
 };
 
+// A load may overtake an earlier store.
 pub const TSO_TABLE: Table = Table {
-    load: ALWAYS,
-    store: Row {
-        load: Order::Never,
-        store: Order::Always,
-        reconcile: Order::Never,
-        commit: Order::Always,
-    },
-    reconcile: ALWAYS,
-    commit: ALWAYS,
-};
-
-pub const PSO_TABLE: Table = Table {
-    load: ALWAYS,
     store: STORE,
-    reconcile: ALWAYS,
-    commit: ALWAYS,
+    ..SC_TABLE
 };
 
+// Also a store may overtake an earlier one at another address.
+pub const PSO_TABLE: Table = Table {
+    store: Row {
+        store: Order::SameAddress,
+        ..STORE
+    },
+    ..SC_TABLE
+};
+
+// Also a load may overtake an earlier load at another address, and a Commit.
 pub const WMM_TABLE: Table = Table {
     load: Row {
         load: Order::SameAddress,
-        store: Order::Always,
-        reconcile: Order::Always,
-        commit: Order::Always,
+        ..ALWAYS
     },
-    store: STORE,
-    reconcile: ALWAYS,
     commit: Row {
         load: Order::Never,
-        store: Order::Always,
-        reconcile: Order::Always,
-        commit: Order::Always,
+        ..ALWAYS
     },
+    ..PSO_TABLE
 };

@@ -13,9 +13,6 @@ abbrev pub up_to : ℕ → (ℕ → Bool) → StaleCopy → (ℕ → List StaleC
 up_to n keep c copies q = cond (ltb q n) (keeping keep c copies q) (copies q)
 
 module _ (keep : ℕ → Bool) (c : StaleCopy) (copies : ℕ → List StaleCopy) where
-  pub upto_none : copies ≡ up_to 0 keep c copies
-  upto_none = fun_ext (λ q. sym (ap (λ b. cond b (keeping keep c copies q) (copies q)) (le-ltb q 0 (omega arith))))
-
   -- the one at n has not yet
   pub upto_same : (n : ℕ) → up_to n keep c copies n ≡ copies n
   upto_same n = ap (λ b. cond b (keeping keep c copies n) (copies n)) (le-ltb n n (omega arith))

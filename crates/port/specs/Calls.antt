@@ -1,6 +1,7 @@
 -- What each call of the port answers and leaves held: one value, by what is held and what the kind chooses.
 use Rattle.std.specs.Prelude.{◌≡◌, ℕ, Bool, true, false, cond, List, length, Some, None, Ok, Err, Option, Result, ◌==◌, nat_lt}
 use Rattle.std.specs.List.{slice_get}
+use Rattle.model.specs.Faults.{refused}
 use Rattle.model.specs.Lists.{oldest}
 use Rattle.model.specs.declared.fault.Fault.{Fault}
 use Rattle.model.specs.declared.fault.Layer.TheVariants.{Machine}
@@ -36,7 +37,7 @@ Meets held settings outcome s s' (Err f) = (outcome ≡ refuses f) × (s' ≡ s)
 
 -- a refusal that names processor p
 abbrev pub fault : Refusal → ℕ → Fault
-fault refusal p = record { refusal = refusal; layer = Machine; place = p }
+fault refusal p = refused Machine refusal p
 
 -- a processor above 3 comes first
 abbrev pub core_refusal : ℕ → Option Refusal

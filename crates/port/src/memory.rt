@@ -8,6 +8,8 @@ use model::{Cell, Fault, Origin, StaleCopy, WaitingStore};
 
 // A memory that four processors reach, with eight addresses. Each call does what its outcome says,
 // by what the machine holds and what its kind chooses; a refused call leaves the whole value.
+// Processor and address are numbers, since 4 and 7 refuse those that do not exist; and a landing
+// answers its three numbers as a tuple, by a rule of the project: they go into a line of the order.
 pub trait Memory {
     // What it holds now: cells by address, waiting stores and stale copies by processor.
     ghost held: { Self → Held };

@@ -1,5 +1,5 @@
 // Kinds of machine.
-ghost use Rattle.std.specs.Prelude.{◌≡◌, ℕ};
+ghost use Rattle.std.specs.Prelude.{ℕ};
 ghost use Rattle.model.specs.Tables.{AtLeast, wmm_table};
 ghost use Rattle.model.specs.Orders.{Table};
 ghost use Rattle.port.specs.Laws.{Sound, Bounds, Progress, NoCopies, InOrder, Direct};
@@ -10,22 +10,15 @@ use model::Table;
 // A kind of machine: its number and its ordering table, and the laws that tie the table to what
 // the machine holds and chooses, at every value.
 pub trait Port: Memory {
+    // The number, in code and in clauses. It is no enum, since kinds to come have numbers of theirs.
     const NUMBER: u8;
 
+    ghost NUMBER: { ℕ };
+
+    // The ordering table, in code and in clauses.
     const TABLE: Table;
 
-    // The two constants, for clauses, which cannot name a constant.
-    ghost number: { ℕ };
-
-    ghost table: { Table };
-
-    // The constant NUMBER.
-    fn kind_number() -> u8
-        ensures { result ≡ number };
-
-    // The constant TABLE.
-    fn ordering() -> Table
-        ensures { result ≡ table };
+    ghost TABLE: { Table };
 
     // The meaning of the port holds.
     ghost sound: { (m : Self) → Sound (Self.Memory.held m) };
@@ -37,14 +30,14 @@ pub trait Port: Memory {
     ghost progress: { (m : Self) → Progress (Self.Memory.held m) (Self.Memory.choice m) };
 
     // The second: the table demands at least what WMM's does.
-    ghost floor: { AtLeast wmm_table table };
+    ghost floor: { AtLeast wmm_table TABLE };
 
     // The third: where the table leaves no room for a stale copy, there is none.
-    ghost copyless: { (m : Self) → NoCopies table (Self.Memory.held m) (Self.Memory.choice m) };
+    ghost copyless: { (m : Self) → NoCopies TABLE (Self.Memory.held m) (Self.Memory.choice m) };
 
     // The fourth: where the table keeps the order of stores, only the oldest lands.
-    ghost ordered: { (m : Self) → InOrder table (Self.Memory.held m) (Self.Memory.choice m) };
+    ghost ordered: { (m : Self) → InOrder TABLE (Self.Memory.held m) (Self.Memory.choice m) };
 
     // The fifth: where the table leaves no room for a waiting store, every put lands directly.
-    ghost direct: { (m : Self) → Direct table (Self.Memory.choice m) };
+    ghost direct: { (m : Self) → Direct TABLE (Self.Memory.choice m) };
 }

@@ -5,6 +5,7 @@ ghost use Rattle.machine.specs.View.{held_of};
 
 use super::Eager;
 use machine::Wmm;
+use port::Fresh;
 use std::alloc::{AllocError, Global};
 
 impl Eager {
@@ -14,5 +15,11 @@ impl Eager {
     {
         let below = Wmm::new(heap)?;
         Ok(Eager { below })
+    }
+}
+
+impl Fresh for Eager {
+    fn fresh(heap: Global) -> Result<Eager, AllocError> {
+        Eager::new(heap)
     }
 }

@@ -8,11 +8,12 @@ ghost use Rattle.kinds.proofs.Laws.{floor_of};
 ghost use Rattle.machine.specs.Soundness.{sound_value};
 
 use super::Eager;
-use super::steps::{land_eagerly, put_eagerly};
+use super::steps::forget_even;
 use kinds::WMM_TABLE;
-use model::{Cell, Fault, Origin, StaleCopy, Table, WaitingStore};
+use model::{Cell, Fault, Layer, Origin, Refusal, StaleCopy, Table, WaitingStore};
 use port::{Memory, Port, Stored};
 
+// What it passes on is written out, here and in the layer, since the gate takes no impl of a macro.
 impl Memory for Eager {
     ghost held = { λ m. held_of m.below };
 
@@ -28,12 +29,24 @@ impl Memory for Eager {
         self.below.old(processor, address, serial)
     }
 
+    // The store lands directly if nothing of its processor waits, and else waits within the limit.
     fn put(&mut self, processor: u8, address: u8, word: u32, place: u8) -> Result<Stored, Fault> {
-        put_eagerly(&mut self.below, processor, address, word, place)
+        if self.is_full(processor, address) {
+            return Err(Layer::Machine.refuses(Refusal::Held, usize::from(processor)));
+        }
+        let first = self.nothing_waits(processor);
+        let stored = self.below.put(processor, address, word, place)?;
+        if first {
+            return Ok(Stored::Landed(self.landing(processor, address)?));
+        }
+        Ok(stored)
     }
 
+    // Only odd processors keep a copy.
     fn landing(&mut self, processor: u8, address: u8) -> Result<(u32, u8, Origin), Fault> {
-        land_eagerly(&mut self.below, processor, address)
+        let landed = self.below.landing(processor, address)?;
+        forget_even(&mut self.below, address);
+        Ok(landed)
     }
 
     fn commit(&self, processor: u8) -> Result<(), Fault> {
@@ -73,11 +86,11 @@ impl Memory for Eager {
 impl Port for Eager {
     const NUMBER: u8 = 9;
 
+    ghost NUMBER = { 9 };
+
     const TABLE: Table = WMM_TABLE;
 
-    ghost number = { 9 };
-
-    ghost table = { wmm_table };
+    ghost TABLE = { wmm_table };
 
     ghost sound = { λ m. sound_value 3 m.below };
 
@@ -92,12 +105,4 @@ impl Port for Eager {
     ghost ordered = { λ m. eager_ordered (held_of m.below) };
 
     ghost direct = { λ m. eager_direct (held_of m.below) };
-
-    fn kind_number() -> u8 {
-        Self::NUMBER
-    }
-
-    fn ordering() -> Table {
-        Self::TABLE
-    }
 }

@@ -1,27 +1,26 @@
-// What an eager machine does with the machine that it is built over.
-ghost use Rattle.std.specs.Prelude.{◌≡◌, ◌<◌, ◌≤◌, length, ◌==◌};
-ghost use Rattle.port.specs.Calls.{Meets, landing_outcome, put_outcome};
+// What an eager machine looks up before a call, and does after one.
+ghost use Rattle.std.specs.Prelude.{◌≡◌, ◌<◌, length, ◌==◌};
 ghost use Rattle.port.specs.Holdings.{after_newest};
-ghost use Rattle.machine.specs.View.{held_of, unset};
-ghost use Rattle.foreign.specs.Eager.{eager_choice, evens, full, without_even};
+ghost use Rattle.machine.specs.View.{held_of};
+ghost use Rattle.foreign.specs.Eager.{full, without_even};
 
-use machine::Buffered;
-use model::{Fault, Layer, Origin, Refusal};
-use port::{Memory, Stored};
+use super::Eager;
+use port::Memory;
 
 // This many stores of a processor may wait.
 const LIMIT: usize = 2;
 
 // The processor lets go of its copies of the address.
 fn forget<M: Memory>(below: &mut M, processor: u8, address: u8)
-    requires { (processor < 4) × (address < 8) }
+    requires on_core { processor < 4 }
+    requires on_map { address < 8 }
     ensures { M.held below.new ≡ after_newest (M.held below.old) processor address }
 {
     let _ = below.newest(processor, address);
 }
 
 // The even processors let go of theirs.
-fn forget_even<M: Memory>(below: &mut M, address: u8)
+pub(super) fn forget_even<M: Memory>(below: &mut M, address: u8)
     requires { address < 8 }
     ensures { M.held below.new ≡ without_even (M.held below.old) address }
 {
@@ -29,67 +28,25 @@ fn forget_even<M: Memory>(below: &mut M, address: u8)
     forget(below, 2, address);
 }
 
-// The processor's oldest store at the address lands, and only odd processors keep a copy.
-pub(super) fn land_eagerly(
-    below: &mut Buffered<3>,
-    processor: u8,
-    address: u8,
-) -> Result<(u32, u8, Origin), Fault>
-    requires { evens (held_of below.old) ≤ 0 }
-    ensures { Meets held_of unset (landing_outcome (eager_choice (held_of below.old)) (held_of below.old) processor address) below.old below.new result }
-{
-    let landed = below.landing(processor, address)?;
-    forget_even(below, address);
-    Ok(landed)
-}
-
-// How many stores of the processor wait.
-fn waiting(below: &Buffered<3>, processor: u8) -> usize
-    ensures { result ≡ length ((held_of below.now).waits processor) }
-{
-    match below.counts(processor) {
-        Ok((stores, _)) => stores,
-        Err(_) => 0,
+impl Eager {
+    // How many stores of the processor wait.
+    fn pending(&self, processor: u8) -> usize
+        ensures { result ≡ length ((held_of self.now.below).waits processor) }
+    {
+        self.below.counts(processor).map_or(0, |(stores, _)| stores)
     }
-}
 
-// Whether no store of the processor waits.
-fn nothing_waits(below: &Buffered<3>, processor: u8) -> bool
-    ensures { result ≡ (length ((held_of below.now).waits processor) == 0) }
-{
-    waiting(below, processor) == 0
-}
-
-// Whether only the limit speaks against one store more.
-fn is_full(below: &Buffered<3>, processor: u8, address: u8) -> bool
-    ensures { result ≡ full (held_of below.now) processor address }
-{
-    waiting(below, processor) >= LIMIT && address < 8 && below.total() < 64
-}
-
-// The store lands directly if nothing of its processor waits, and else waits within the limit.
-pub(super) fn put_eagerly(
-    below: &mut Buffered<3>,
-    processor: u8,
-    address: u8,
-    word: u32,
-    place: u8,
-) -> Result<Stored, Fault>
-    requires { evens (held_of below.old) ≤ 0 }
-    ensures { Meets held_of unset (put_outcome (eager_choice (held_of below.old)) (held_of below.old) processor address word place) below.old below.new result }
-{
-    if is_full(below, processor, address) {
-        return Err(Fault {
-            refusal: Refusal::Held,
-            layer: Layer::Machine,
-            place: processor as usize,
-        });
+    // Whether no store of the processor waits.
+    pub(super) fn nothing_waits(&self, processor: u8) -> bool
+        ensures { result ≡ (length ((held_of self.now.below).waits processor) == 0) }
+    {
+        self.pending(processor) == 0
     }
-    let first = nothing_waits(below, processor);
-    let stored = below.put(processor, address, word, place)?;
-    if first {
-        let landed = land_eagerly(below, processor, address)?;
-        return Ok(Stored::Landed(landed));
+
+    // Whether only the limit speaks against one store more.
+    pub(super) fn is_full(&self, processor: u8, address: u8) -> bool
+        ensures { result ≡ full (held_of self.now.below) processor address }
+    {
+        self.pending(processor) >= LIMIT && address < 8 && self.below.total() < 64
     }
-    Ok(stored)
 }

@@ -5,7 +5,8 @@ ghost use Rattle.machine.specs.View.{held_of};
 
 use super::Buffered;
 use crate::parts::initial_cells;
-use buffers::Buffers;
+use crate::processors::Processors;
+use port::Fresh;
 use std::alloc::{AllocError, Global};
 
 impl<const KIND: u8> Buffered<KIND> {
@@ -13,13 +14,14 @@ impl<const KIND: u8> Buffered<KIND> {
     pub fn new(heap: Global) -> Result<Buffered<KIND>, AllocError>
         ensures { IfOk result (λ m. held_of m ≡ nothing_yet) }
     {
-        let waiting = Buffers::new(heap)?;
-        let copies = Buffers::new(heap)?;
+        let processors = Processors::new(heap)?;
         let cells = initial_cells();
-        Ok(Buffered {
-            cells,
-            waiting,
-            copies,
-        })
+        Ok(Buffered { cells, processors })
+    }
+}
+
+impl<const KIND: u8> Fresh for Buffered<KIND> {
+    fn fresh(heap: Global) -> Result<Buffered<KIND>, AllocError> {
+        Buffered::new(heap)
     }
 }

@@ -7,8 +7,8 @@ ghost use Rattle.port.specs.Calls.{Meets, commit_answer, landing_outcome, newest
 ghost use Rattle.machine.specs.View.{held_of, unset};
 
 use super::Buffered;
-use crate::parts::{empty, initial_cells, nth};
-use crate::refuse::{on_core, on_map, refused};
+use crate::access::{on_core, on_map, refused};
+use crate::parts::initial_cells;
 use kinds::lands_directly;
 use model::{Cell, Fault, Origin, Refusal, StaleCopy, WaitingStore};
 use port::{Memory, Stored};
@@ -24,19 +24,19 @@ impl<const KIND: u8> Memory for Buffered<KIND> {
         ensures meets { Meets held_of unset (newest_outcome (held_of self.old) processor address) self.old self.new result }
         ensures published { LoadAgrees KIND processor address (held_of self.old) (held_of self.new) result }
     {
-        on_map(processor, address)?;
-        Ok(self.load_newest(processor, address))
+        let access = on_map(processor, address)?;
+        Ok(self.load_newest(access))
     }
 
     fn old(&mut self, processor: u8, address: u8, serial: u8) -> Result<(u32, Origin), Fault>
         ensures meets { Meets held_of unset (old_outcome (choice_of KIND (held_of self.old)) (held_of self.old) processor address serial) self.old self.new result }
         ensures published { StaleLoadAgrees KIND processor address (held_of self.old) (held_of self.new) result }
     {
-        on_map(processor, address)?;
-        let Some(copy) = self.copy_of(processor, address, serial) else {
+        let access = on_map(processor, address)?;
+        let Some(copy) = self.copy_of(access, serial) else {
             return Err(refused(Refusal::NoCopy, processor));
         };
-        self.let_older_go(processor, address, serial);
+        self.let_older_go(access, serial);
         Ok((copy.cell.word, copy.cell.origin))
     }
 
@@ -44,20 +44,14 @@ impl<const KIND: u8> Memory for Buffered<KIND> {
         ensures meets { Meets held_of unset (put_outcome (choice_of KIND (held_of self.old)) (held_of self.old) processor address word place) self.old self.new result }
         ensures published { StoreAgrees KIND processor address word (held_of self.old) (held_of self.new) result }
     {
-        on_map(processor, address)?;
+        let access = on_map(processor, address)?;
         if self.spent() {
             return Err(refused(Refusal::Spent, processor));
         }
-        let origin = Origin::Store { processor, place };
-        let store = WaitingStore {
-            address,
-            word,
-            origin,
-        };
         if lands_directly(KIND) {
-            return Ok(Stored::Landed(self.put_through(processor, store)));
+            return Ok(Stored::Landed(self.put_through(access, word, place)));
         }
-        self.put_behind(processor, store);
+        self.put_behind(access, word, place);
         Ok(Stored::Waiting)
     }
 
@@ -65,14 +59,14 @@ impl<const KIND: u8> Memory for Buffered<KIND> {
         ensures meets { Meets held_of unset (landing_outcome (choice_of KIND (held_of self.old)) (held_of self.old) processor address) self.old self.new result }
         ensures published { LandingAgrees KIND processor address (held_of self.old) (held_of self.new) result }
     {
-        on_map(processor, address)?;
-        let Some(store) = self.oldest_at(processor, address) else {
+        let access = on_map(processor, address)?;
+        let Some(store) = self.oldest_at(access) else {
             return Err(refused(Refusal::NothingWaits, processor));
         };
-        if self.held_back(processor, address) {
+        if self.held_back(access) {
             return Err(refused(Refusal::Held, processor));
         }
-        Ok(self.land_oldest(processor, address, store))
+        Ok(self.land_oldest(access, store))
     }
 
     fn commit(&self, processor: u8) -> Result<(), Fault>
@@ -96,32 +90,32 @@ impl<const KIND: u8> Memory for Buffered<KIND> {
     }
 
     fn renew(&mut self) {
-        empty(&mut self.waiting, &mut self.copies);
+        self.processors.clear();
         self.cells = initial_cells();
     }
 
     fn cell(&self, address: u8) -> Result<Cell, Fault> {
-        if address > 7 {
-            return Err(refused(Refusal::OffMap, 0));
-        }
-        Ok(self.cells[address as usize])
+        self.cells
+            .get(address as usize)
+            .copied()
+            .ok_or_else(|| refused(Refusal::OffMap, 0))
     }
 
     fn waiting(&self, processor: u8, index: usize) -> Result<Option<WaitingStore>, Fault> {
         on_core(processor)?;
-        Ok(nth(self.waiting.of(processor), index))
+        Ok(self.waiting_of(processor).get(index).copied())
     }
 
     fn copy(&self, processor: u8, index: usize) -> Result<Option<StaleCopy>, Fault> {
         on_core(processor)?;
-        Ok(nth(self.copies.of(processor), index))
+        Ok(self.copies_of(processor).get(index).copied())
     }
 
     fn counts(&self, processor: u8) -> Result<(usize, usize), Fault> {
         on_core(processor)?;
         Ok((
-            self.waiting.of(processor).len(),
-            self.copies.of(processor).len(),
+            self.waiting_of(processor).len(),
+            self.copies_of(processor).len(),
         ))
     }
 

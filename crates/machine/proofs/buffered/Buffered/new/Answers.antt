@@ -6,9 +6,6 @@ use Rattle.machine.proofs.buffered.Buffered.new.Goals as goal
 
 pub invariant_of-result : goal.invariant_of-result
 invariant_of-result g c =
-    facts g.row.KIND c.initial_cells-cells.result c.in_ok-waiting.waiting c.in_ok-copies.copies nothing_yet (ap length c.initial_cells-cells.ensures)
-    (held_new c.initial_cells-cells.result c.in_ok-waiting.waiting c.in_ok-copies.copies c.initial_cells-cells.ensures c.in_ok-waiting.ensures c.in_ok-copies.ensures)
+    facts g.row.KIND c.initial_cells-cells.result c.in_ok-processors.processors nothing_yet (ap length c.initial_cells-cells.ensures)
+    (held_new c.initial_cells-cells.result c.in_ok-processors.processors c.initial_cells-cells.ensures c.in_ok-processors.ensures.waiting c.in_ok-processors.ensures.copies)
     (good_new g.row.KIND)
-
-pub returns : goal.returns
-returns g c = held_new c.initial_cells-cells.result c.in_ok-waiting.waiting c.in_ok-copies.copies c.initial_cells-cells.ensures c.in_ok-waiting.ensures c.in_ok-copies.ensures

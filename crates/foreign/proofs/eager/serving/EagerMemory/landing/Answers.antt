@@ -1,12 +1,16 @@
+use Rattle.std.proofs.Common.{refl, subst}
 use Rattle.machine.specs.View.{held_of}
-use Rattle.foreign.proofs.Evenness.{even_landing, passes, still}
+use Rattle.foreign.proofs.Eagerness.{landed_eagerly}
+use Rattle.foreign.proofs.Evenness.{Even, even_landing}
 use Rattle.foreign.proofs.eager.serving.EagerMemory.landing.Goals as goal
 
-pub invariant_of-self : goal.invariant_of-self
-invariant_of-self c =
-    let s = c.args.self.now.below in
+pub invariant_of-self-2 : goal.invariant_of-self-2
+invariant_of-self-2 c =
+    let h = held_of c.args.self.now.below in
     let none = c.args.self.now.odd in
-    record { odd = still _ (even_landing (held_of s) none c.args.processor c.args.address) s c.land_eagerly.new.below c.land_eagerly.result none c.land_eagerly.ensures }
+    let landed = landed_eagerly h none c.args.processor c.args.address c.in_ok-landed.landed (held_of c.landing.new.self) (held_of c.forget_even.new.below) c.in_ok-landed.ensures.meets.0 c.forget_even.ensures in
+    record { odd = subst Even landed (even_landing h none c.args.processor c.args.address) }
 
 pub returns : goal.returns
-returns c = passes _ c.args.self.now c.land_eagerly.new.below _ c.land_eagerly.result c.land_eagerly.ensures
+returns c =
+    (landed_eagerly (held_of c.args.self.now.below) c.args.self.now.odd c.args.processor c.args.address c.in_ok-landed.landed (held_of c.landing.new.self) (held_of c.forget_even.new.below) c.in_ok-landed.ensures.meets.0 c.forget_even.ensures, refl)
