@@ -1,9 +1,9 @@
 // Port calls as values, and what they answer.
-use model::{Fault, Origin};
+use model::{Fault, Refusal};
 use port::{Memory, Stored};
 
 // A call of the port: processor, address and then what else it takes.
-#[derive(Clone, Copy)]
+#[derive(Clone, Copy, PartialEq, Eq, Debug)]
 pub enum Call {
     Newest(u8, u8),
     Old(u8, u8, u8),
@@ -20,8 +20,6 @@ pub enum Call {
 // What a case looks at of an answer.
 #[derive(Clone, Copy, PartialEq, Eq, Debug)]
 pub enum Got {
-    // the number and the place of a refusal
-    Refused(u8, usize),
     // the word of a load, a cell, a waiting store or a copy
     Word(u32),
     // the word and the serial of a store that landed
@@ -35,74 +33,49 @@ pub enum Got {
     Counts(usize, usize),
 }
 
-fn refused(fault: Fault) -> Got {
-    Got::Refused(u8::from(fault.refusal), fault.place)
-}
-
-fn read(answer: Result<(u32, Origin), Fault>) -> Got {
-    match answer {
-        Ok((word, _)) => Got::Word(word),
-        Err(fault) => refused(fault),
-    }
-}
-
-fn stored(answer: Result<Stored, Fault>) -> Got {
-    match answer {
-        Ok(Stored::Waiting) => Got::Waits,
-        Ok(Stored::Landed((word, serial, _))) => Got::Landed(word, serial),
-        Err(fault) => refused(fault),
-    }
-}
-
-fn landed(answer: Result<(u32, u8, Origin), Fault>) -> Got {
-    match answer {
-        Ok((word, serial, _)) => Got::Landed(word, serial),
-        Err(fault) => refused(fault),
-    }
-}
-
-fn done(answer: Result<(), Fault>) -> Got {
-    match answer {
-        Ok(()) => Got::Done,
-        Err(fault) => refused(fault),
-    }
-}
-
-fn look<M: Memory>(machine: &M, call: Call) -> Got {
-    match call {
-        Call::Cell(address) => match machine.cell(address) {
-            Ok(cell) => Got::Word(cell.word),
-            Err(fault) => refused(fault),
-        },
-        Call::Waiting(processor, index) => match machine.waiting(processor, index) {
-            Ok(Some(store)) => Got::Word(store.word),
-            Ok(None) => Got::Past,
-            Err(fault) => refused(fault),
-        },
-        Call::Copy(processor, index) => match machine.copy(processor, index) {
-            Ok(Some(copy)) => Got::Word(copy.cell.word),
-            Ok(None) => Got::Past,
-            Err(fault) => refused(fault),
-        },
-        Call::Counts(processor) => match machine.counts(processor) {
-            Ok((waiting, copies)) => Got::Counts(waiting, copies),
-            Err(fault) => refused(fault),
-        },
-        _ => Got::Past,
-    }
-}
+// An answer, or a refusal and its place.
+pub type Answer = Result<Got, (Refusal, usize)>;
 
 // Makes the call.
-pub fn make<M: Memory>(machine: &mut M, call: Call) -> Got {
-    match call {
-        Call::Newest(processor, address) => read(machine.newest(processor, address)),
-        Call::Old(processor, address, serial) => read(machine.old(processor, address, serial)),
-        Call::Put(processor, address, word, place) => stored(machine.put(
-            processor, address, word, place,
-        )),
-        Call::Landing(processor, address) => landed(machine.landing(processor, address)),
-        Call::Commit(processor) => done(machine.commit(processor)),
-        Call::Reconcile(processor) => done(machine.reconcile(processor)),
-        _ => look(machine, call),
-    }
+pub fn make<M: Memory>(machine: &mut M, call: Call) -> Answer {
+    perform(machine, call).map_err(|fault| (fault.refusal, fault.place))
+}
+
+// A case is a line of a table, so its call is data; beside the calls there are the looks.
+fn perform<M: Memory>(machine: &mut M, call: Call) -> Result<Got, Fault> {
+    Ok(match call {
+        Call::Newest(processor, address) => Got::Word(machine.newest(processor, address)?.0),
+        Call::Old(processor, address, serial) => {
+            Got::Word(machine.old(processor, address, serial)?.0)
+        }
+        Call::Put(processor, address, word, place) => {
+            match machine.put(processor, address, word, place)? {
+                Stored::Waiting => Got::Waits,
+                Stored::Landed((word, serial, _)) => Got::Landed(word, serial),
+            }
+        }
+        Call::Landing(processor, address) => {
+            let (word, serial, _) = machine.landing(processor, address)?;
+            Got::Landed(word, serial)
+        }
+        Call::Commit(processor) => {
+            machine.commit(processor)?;
+            Got::Done
+        }
+        Call::Reconcile(processor) => {
+            machine.reconcile(processor)?;
+            Got::Done
+        }
+        Call::Cell(address) => Got::Word(machine.cell(address)?.word),
+        Call::Waiting(processor, index) => machine
+            .waiting(processor, index)?
+            .map_or(Got::Past, |store| Got::Word(store.word)),
+        Call::Copy(processor, index) => machine
+            .copy(processor, index)?
+            .map_or(Got::Past, |copy| Got::Word(copy.cell.word)),
+        Call::Counts(processor) => {
+            let (waiting, copies) = machine.counts(processor)?;
+            Got::Counts(waiting, copies)
+        }
+    })
 }

@@ -1,8 +1,7 @@
 -- How calls and answers are written.
 use Rattle.std.specs.Prelude.{ℕ, List, [], ◌∷◌, codes, decimal}
+use Rattle.model.specs.Memory.{origin_text}
 use Rattle.model.specs.Text.{text}
-use Rattle.model.specs.declared.memory.Origin.{Origin}
-use Rattle.model.specs.declared.memory.Origin.TheVariants.{Initial, Store}
 use Rattle.port.specs.declared.stored.Stored.{Stored}
 use Rattle.port.specs.declared.stored.Stored.TheVariants.{Waiting, Landed as LandedDirectly}
 use Rattle.machines.specs.declared.answers.Answer.{Answer}
@@ -17,11 +16,6 @@ call_text (Put p a word place) = text (codes "put " ∷ decimal p ∷ codes " ad
 call_text (Landing p a) = text (codes "landing " ∷ decimal p ∷ codes " address " ∷ decimal a ∷ [])
 call_text (Commit p) = text (codes "commit " ∷ decimal p ∷ [])
 call_text (Reconcile p) = text (codes "reconcile " ∷ decimal p ∷ [])
-
--- the store that a word is from
-abbrev pub origin_text : Origin → List ℕ
-origin_text Initial = codes "init"
-origin_text (Store p place) = text (decimal p ∷ codes "." ∷ decimal place ∷ [])
 
 abbrev pub stored_text : Stored → List ℕ
 stored_text Waiting = codes "waits"

@@ -1,13 +1,13 @@
 // What the calls answer.
 ghost use Rattle.std.specs.Prelude.{Some};
-ghost use Rattle.machines.specs.Texts.{answer_text, origin_text};
+ghost use Rattle.machines.specs.Texts.{answer_text};
 
 use model::Origin;
 use port::Stored;
 use std::fmt;
 
 // What a call answers: what the port gives, and of a fence that it went through.
-#[derive(Clone, Copy)]
+#[derive(Clone, Copy, PartialEq, Eq, Debug)]
 pub enum Answer {
     Loaded((u32, Origin)),
     Taken(Stored),
@@ -20,32 +20,13 @@ impl fmt::Display for Answer {
 
     fn fmt<W: fmt::Write>(&self, f: &mut fmt::Formatter<W>) -> fmt::Result {
         match *self {
-            Answer::Loaded((word, origin)) => {
-                let source = Source(origin);
-                write!(f, "word {word} from {source}")
-            }
+            Answer::Loaded((word, origin)) => write!(f, "word {word} from {origin}"),
             Answer::Taken(Stored::Waiting) => f.pad("waits"),
             Answer::Taken(Stored::Landed((_, serial, _))) => write!(f, "landed serial {serial}"),
             Answer::Landed((word, serial, origin)) => {
-                let source = Source(origin);
-                write!(f, "word {word} serial {serial} from {source}")
+                write!(f, "word {word} serial {serial} from {origin}")
             }
             Answer::Done => f.pad("done"),
-        }
-    }
-}
-
-// Where a word is from: `init`, or the processor and the place of the store.
-#[derive(Clone, Copy)]
-struct Source(Origin);
-
-impl fmt::Display for Source {
-    ghost output = { λ source. Some (origin_text source.0) };
-
-    fn fmt<W: fmt::Write>(&self, f: &mut fmt::Formatter<W>) -> fmt::Result {
-        match self.0 {
-            Origin::Initial => f.pad("init"),
-            Origin::Store { processor, place } => write!(f, "{processor}.{place}"),
         }
     }
 }

@@ -5,7 +5,7 @@ ghost use Rattle.machines.specs.Texts.{call_text};
 use std::fmt;
 
 // A call of the port.
-#[derive(Clone, Copy)]
+#[derive(Clone, Copy, PartialEq, Eq, Debug)]
 pub enum Call {
     Newest {
         processor: u8,

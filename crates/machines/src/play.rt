@@ -14,7 +14,7 @@ use std::fmt;
 pub fn play<M: Port>(text: &mut String, machine: &mut M, calls: &[Call]) -> fmt::Result
     ensures { OnOk result (Played M.Memory machine.old calls.now machine.new) }
 {
-    write_kind(text, M::kind_number())?;
+    write_kind(text, M::NUMBER)?;
     for call in calls {
         play_one(text, machine, *call)?;
     }

@@ -2,37 +2,44 @@
 ghost use Rattle.std.specs.Prelude.{◌≡◌, ◌<◌, length, Some};
 ghost use Rattle.std.specs.List.{slice_get};
 
-use model::{Cell, StaleCopy, WaitingStore};
+use model::{StaleCopy, WaitingStore};
 use port::Memory;
 use std::fmt;
 
+// One of the four processors, of which the looking calls refuse nothing.
+#[derive(Clone, Copy)]
+struct Processor {
+    number: u8,
+    ghost within: { number < 4 },
+}
+
 // Writes the cells of addresses 0 and 1, and every buffer that is not empty.
 pub fn write_held<M: Memory>(text: &mut String, machine: &M) -> fmt::Result {
-    let first = cell(machine, 0);
-    let second = cell(machine, 1);
+    let first = machine.cell(0).unwrap();
+    let second = machine.cell(1).unwrap();
     writeln!(
         text,
         "  memory {} serial {}, {} serial {}",
         first.word, first.serial, second.word, second.serial
     )?;
-    for processor in 0..4 {
-        write_waiting(text, machine, processor)?;
+    // the port names processors by number
+    for number in 0..4 {
+        write_waiting(text, machine, Processor { number })?;
     }
-    for processor in 0..4 {
-        write_copies(text, machine, processor)?;
+    for number in 0..4 {
+        write_copies(text, machine, Processor { number })?;
     }
     Ok(())
 }
 
-// A line of the processor's waiting stores, oldest first, if it has any.
-fn write_waiting<M: Memory>(text: &mut String, machine: &M, processor: u8) -> fmt::Result
-    requires { processor < 4 }
-{
+// A line of the processor's waiting stores, oldest first, if it has any. The port shows a buffer
+// item by item, so the loop counts.
+fn write_waiting<M: Memory>(text: &mut String, machine: &M, processor: Processor) -> fmt::Result {
     let (count, _) = counts(machine, processor);
     if count == 0 {
         return Ok(());
     }
-    write!(text, "  waiting {processor}:")?;
+    write!(text, "  waiting {}:", processor.number)?;
     for index in 0..count {
         let store = waiting(machine, processor, index);
         write!(text, " [{}]={}", store.address, store.word)?;
@@ -41,15 +48,14 @@ fn write_waiting<M: Memory>(text: &mut String, machine: &M, processor: u8) -> fm
     Ok(())
 }
 
-// A line of the processor's copies, oldest first, if it has any.
-fn write_copies<M: Memory>(text: &mut String, machine: &M, processor: u8) -> fmt::Result
-    requires { processor < 4 }
-{
+// The same of its copies. The two lines share their frame alone, so they are two functions: one over
+// closures, which may be called below a count only, would be longer than both.
+fn write_copies<M: Memory>(text: &mut String, machine: &M, processor: Processor) -> fmt::Result {
     let (_, count) = counts(machine, processor);
     if count == 0 {
         return Ok(());
     }
-    write!(text, "  copies {processor}:")?;
+    write!(text, "  copies {}:", processor.number)?;
     for index in 0..count {
         let copy = copy(machine, processor, index);
         write!(
@@ -62,35 +68,25 @@ fn write_copies<M: Memory>(text: &mut String, machine: &M, processor: u8) -> fmt
     Ok(())
 }
 
-// The looking calls, where they refuse nothing.
+// The looking calls, one for each, where they refuse nothing.
 
-fn cell<M: Memory>(machine: &M, address: u8) -> Cell
-    requires { address < 8 }
-    ensures { result ≡ (M.Memory.held machine.now).cell address }
+fn counts<M: Memory>(machine: &M, processor: Processor) -> (usize, usize)
+    ensures waiting { result.0 ≡ length ((M.Memory.held machine.now).waits processor.number) }
+    ensures copies { result.1 ≡ length ((M.Memory.held machine.now).copies processor.number) }
 {
-    machine.cell(address).unwrap()
+    machine.counts(processor.number).unwrap()
 }
 
-fn counts<M: Memory>(machine: &M, processor: u8) -> (usize, usize)
-    requires { processor < 4 }
-    ensures waiting { result.0 ≡ length ((M.Memory.held machine.now).waits processor) }
-    ensures copies { result.1 ≡ length ((M.Memory.held machine.now).copies processor) }
+fn waiting<M: Memory>(machine: &M, processor: Processor, index: usize) -> WaitingStore
+    requires { index < length ((M.Memory.held machine.now).waits processor.number) }
+    ensures { slice_get ((M.Memory.held machine.now).waits processor.number) index ≡ Some result }
 {
-    machine.counts(processor).unwrap()
+    machine.waiting(processor.number, index).unwrap().unwrap()
 }
 
-fn waiting<M: Memory>(machine: &M, processor: u8, index: usize) -> WaitingStore
-    requires within { processor < 4 }
-    requires some { index < length ((M.Memory.held machine.now).waits processor) }
-    ensures { slice_get ((M.Memory.held machine.now).waits processor) index ≡ Some result }
+fn copy<M: Memory>(machine: &M, processor: Processor, index: usize) -> StaleCopy
+    requires { index < length ((M.Memory.held machine.now).copies processor.number) }
+    ensures { slice_get ((M.Memory.held machine.now).copies processor.number) index ≡ Some result }
 {
-    machine.waiting(processor, index).unwrap().unwrap()
-}
-
-fn copy<M: Memory>(machine: &M, processor: u8, index: usize) -> StaleCopy
-    requires within { processor < 4 }
-    requires some { index < length ((M.Memory.held machine.now).copies processor) }
-    ensures { slice_get ((M.Memory.held machine.now).copies processor) index ≡ Some result }
-{
-    machine.copy(processor, index).unwrap().unwrap()
+    machine.copy(processor.number, index).unwrap().unwrap()
 }

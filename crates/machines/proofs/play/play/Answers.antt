@@ -1,6 +1,4 @@
-use Rattle.std.proofs.Common.{List, subst, take_all}
-use Rattle.machines.specs.Played.{Played, begun}
-use Rattle.machines.specs.declared.calls.Call.{Call}
+use Rattle.machines.specs.Played.{begun}
 use Rattle.machines.specs.declared.calls.Call.TheVariants.{Newest}
 use Rattle.machines.proofs.Playing.{played_more}
 use Rattle.machines.proofs.play.play.Goals as goal
@@ -12,9 +10,3 @@ pub loop-call-preserved : goal.loop-call-preserved
 loop-call-preserved g c =
     played_more g.M.Memory c.args.machine.now c.loop-call.machine c.play_one.new.machine c.args.calls.now c.loop-call.call-index (Newest 0 0)
     c.loop-call-test.true c.loop-call.invariant c.play_one.ensures
-
-pub returns : goal.returns
-returns g c =
-    subst (λ (calls : List Call). Played g.M.Memory c.args.machine.now calls c.loop-call.machine)
-    (take_all c.loop-call.call-index c.args.calls.now c.loop-call-test.false)
-    c.loop-call.invariant
