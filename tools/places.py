@@ -26,7 +26,7 @@ LINES = {
         r"^#\[derive\(Clone, Copy\)\]$",
     ],
     6: [r"^\s*(first|second|third|fourth): Vec<", r"^\s*match processor \{"],
-    7: [r"^\s*match call \{", r"^pub trait Query\b"],
+    7: [r"\bmatch call \{", r"^pub trait Query\b"],
 }
 
 

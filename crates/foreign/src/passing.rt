@@ -19,6 +19,7 @@ impl<M: Port> Passing<M> {
     }
 }
 
+// Written out, since the gate takes no impl of a macro.
 impl<M: Port> Memory for Passing<M> {
     ghost held = { λ m. M.Memory.held m.below };
 

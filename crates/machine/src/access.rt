@@ -7,7 +7,7 @@ ghost use Rattle.port.specs.Holdings.{store_of};
 
 use model::{Fault, Layer, Origin, Refusal, WaitingStore};
 
-// A processor and an address that exist.
+// A processor and an address that exist. Never compared, so `Clone` and `Copy` are all it derives.
 #[derive(Clone, Copy)]
 pub struct Access {
     pub processor: u8,

@@ -2,7 +2,8 @@
 use model::{Fault, Refusal};
 use port::{Memory, Stored};
 
-// A call of the port: processor, address and then what else it takes.
+// A call of the port: processor, address and then what else it takes. Short, for tables, and with
+// the looks, so it is not the one that `machines` prints.
 #[derive(Clone, Copy, PartialEq, Eq, Debug)]
 pub enum Call {
     Newest(u8, u8),

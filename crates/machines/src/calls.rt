@@ -4,7 +4,8 @@ ghost use Rattle.machines.specs.Texts.{call_text};
 
 use std::fmt;
 
-// A call of the port.
+// A call of the port. It is printed, so its fields have names; the tests have a short one of their
+// own, with the looks.
 #[derive(Clone, Copy, PartialEq, Eq, Debug)]
 pub enum Call {
     Newest {

@@ -21,7 +21,7 @@ pub fn play<M: Port>(text: &mut String, machine: &mut M, calls: &[Call]) -> fmt:
     Ok(())
 }
 
-// The name of a kind, or its number, where it has no name.
+// The name of a kind, or its number, where it has no name, as a kind to come has none.
 fn write_kind(text: &mut String, number: u8) -> fmt::Result {
     match Kind::try_from(number) {
         Ok(kind) => writeln!(text, "{kind}")?,

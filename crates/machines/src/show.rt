@@ -6,7 +6,7 @@ use model::{StaleCopy, WaitingStore};
 use port::Memory;
 use std::fmt;
 
-// One of the four processors, of which the looking calls refuse nothing.
+// One of the four processors, of which the looking calls refuse nothing. Never compared.
 #[derive(Clone, Copy)]
 struct Processor {
     number: u8,

@@ -6,7 +6,7 @@ ghost use Rattle.formats.specs.Checks.{first_of};
 
 use model::{Fault, Layer, Refusal};
 
-// Bytes whose header is whole.
+// Bytes whose header is whole. Like the types of the steps after it, it is never compared.
 #[derive(Clone, Copy)]
 pub struct Header<'a> {
     pub bytes: &'a [u8],

@@ -25,7 +25,8 @@ impl TryFrom<&[u8]> for Instr {
     }
 }
 
-// The instruction of four fields, if those that its kind does not use are 0.
+// The instruction of four fields, if those that its kind does not use are 0. They stay apart, as
+// the rules of the fields name them.
 fn of_fields(kind: u8, d: u8, s: u8, c: u8) -> Option<Instr>
     ensures { result ≡ of_fields kind d s c }
 {
