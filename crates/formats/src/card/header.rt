@@ -6,7 +6,8 @@ ghost use Rattle.formats.specs.Checks.{first_of};
 
 use model::{Fault, Layer, Refusal};
 
-// Bytes whose header is whole. Like the types of the steps after it, it is never compared.
+// Bytes whose header is whole. Nothing compares or prints it, nor `Thread` and `Moves`, so all three
+// derive `Clone` and `Copy` alone.
 #[derive(Clone, Copy)]
 pub struct Header<'a> {
     pub bytes: &'a [u8],
