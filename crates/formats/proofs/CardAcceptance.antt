@@ -1,13 +1,12 @@
 -- A card has no fault exactly where it keeps every rule.
-use Rattle.std.proofs.Common.{◌≡◌, ℕ, ◌+◌, ◌*◌, ◌<◌, ◌≤◌, true, ◌&&◌, leb, List, length, ok_or, IsErrAnd, Some, None, Ok, Option, Result, sym, refl, ap, ◌∙◌, subst}
-use Rattle.std.specs.Result.{MatchResult}
-use Rattle.std.proofs.lemmas.Bool.{and_from, and_parts, false≢true, le-leb, leb-true}
+use Rattle.std.proofs.Common.{◌≡◌, ℕ, ◌+◌, ◌*◌, ◌<◌, ◌≤◌, true, ◌&&◌, leb, List, length, ok_or, IsErrAnd, Some, None, Ok, Err, Option, Result, sym, refl, ap, ◌∙◌}
+use Rattle.std.proofs.lemmas.Bool.{and_from, and_parts, false≢true, le-leb, leb-true, lt-leb}
 use Rattle.model.specs.declared.fault.Fault.{Fault}
 use Rattle.model.specs.declared.fault.Refusal.{Refusal}
 use Rattle.model.specs.declared.fault.Refusal.TheVariants.{Malformed}
 use Rattle.formats.specs.CardRules.{CardRules, HeaderIsWhole, IsInstruction, OneToEightAddresses, OneToFourProcessors, ThreadFits}
-use Rattle.formats.specs.Cards.{addresses_in, card_fault, count_at, fits_thread, furthest, header_fault, header_length, instr_bytes, instr_fault, instrs_fault, offset_at, processors_in, thread_fault}
-use Rattle.formats.specs.Checks.{IsCheckedView, first, first_of}
+use Rattle.formats.specs.Cards.{addresses_in, card_fault, card_refusal, count_at, fits_thread, furthest, header_fault, header_length, instr_byte, instr_bytes, instr_fault, instrs_fault, offset_at, processors_in, thread_fault}
+use Rattle.formats.specs.Checks.{IsCheckedView, check, first, first_of}
 use Rattle.isa.specs.Instrs.{decoded}
 use Rattle.isa.specs.declared.instr.Instr.{Instr}
 use Rattle.isa.proofs.Decoding.{decodes}
@@ -78,20 +77,31 @@ keeps_instr bs p i h =
     check_from (fits_thread (count_at bs p) i (decoded (instr_bytes bs p i))) _ _
     (ap (fits_thread (count_at bs p) i) d ∙ le-leb (furthest i h.instr) (count_at bs p) h.target) refl
 
--- an instruction that was read, its refusals turned into faults
-abbrev Read : Instr → Result Instr Refusal → Type 0
-Read x r = MatchResult r (λ y. ◌≡◌ {A = Result Instr Fault} (Ok x) (Ok y)) (λ e. ⊥)
+read_is : (o : Option Instr) (x : Instr) → ok_or o Malformed ≡ Ok x → o ≡ Some x
+read_is None x e = absurd cc
+read_is (Some y) x e = cc
 
-read_is : (o : Option Instr) (x : Instr) → Read x (ok_or o Malformed) → o ≡ Some x
-read_is None x m = absurd m
-read_is (Some y) x m = cc
+unread_is : (o : Option Instr) (e : Refusal) → ok_or o Malformed ≡ Err e → o ≡ None
+unread_is None e h = refl
+unread_is (Some y) e h = absurd cc
 
--- such an instruction that stays in its thread
-pub stays : (bs : List ℕ) (p i : ℕ) (r : Result Instr Refusal) (x : Instr) → r ≡ ok_or (decoded (instr_bytes bs p i)) Malformed → Read x r → furthest i x ≤ count_at bs p → instr_fault bs p i ≡ None
-stays bs p i r x e m l =
-    let d = read_is (decoded (instr_bytes bs p i)) x (subst (Read x) e m) in
-    check_from (fits_thread (count_at bs p) i (decoded (instr_bytes bs p i))) _ _
-    (ap (fits_thread (count_at bs p) i) d ∙ le-leb (furthest i x) (count_at bs p) l) refl
+-- what was read for an instruction
+module _ (bs : List ℕ) (p i : ℕ) (r : Result Instr Refusal) (read : r ≡ ok_or (decoded (instr_bytes bs p i)) Malformed) where
+  abbrev fits : Option Instr → Option Fault
+  fits o = check (fits_thread (count_at bs p) i o) (card_refusal Malformed (instr_byte bs p i)) None
+
+  is : (x : Instr) → r ≡ Ok x → fits (Some x) ≡ instr_fault bs p i
+  is x e = ap fits (sym (read_is (decoded (instr_bytes bs p i)) x (sym read ∙ e)))
+
+  -- one that stays in its thread, one that does not, and bytes that stand for none
+  pub stays : (x : Instr) → r ≡ Ok x → furthest i x ≤ count_at bs p → None ≡ instr_fault bs p i
+  stays x e l = sym (ap (λ b. check b (card_refusal Malformed (instr_byte bs p i)) None) (le-leb (furthest i x) (count_at bs p) l)) ∙ is x e
+
+  pub leaves : (x : Instr) → r ≡ Ok x → count_at bs p < furthest i x → Some (card_refusal Malformed (instr_byte bs p i)) ≡ instr_fault bs p i
+  leaves x e l = sym (ap (λ b. check b (card_refusal Malformed (instr_byte bs p i)) None) (lt-leb (furthest i x) (count_at bs p) l)) ∙ is x e
+
+  pub unread : (refusal : Refusal) → r ≡ Err refusal → Some (card_refusal Malformed (instr_byte bs p i)) ≡ instr_fault bs p i
+  unread refusal e = ap fits (sym (unread_is (decoded (instr_bytes bs p i)) refusal (sym read ∙ e)))
 
 pub threads_keep : (bs : List ℕ) → header_length bs ≤ length bs → first_of (thread_fault bs) 0 (processors_in bs) ≡ None → (p : ℕ) → p < processors_in bs → ThreadFits bs p
 threads_keep bs h e p l = thread_keeps bs p h (each_none (thread_fault bs) (processors_in bs) e p l)

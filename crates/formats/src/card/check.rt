@@ -1,4 +1,5 @@
 // From bytes to a card: every rule, in a fixed order.
+ghost use Rattle.std.specs.Prelude.{◌≡◌, IsNone};
 ghost use Rattle.formats.specs.CardRules.{CardRules};
 ghost use Rattle.formats.specs.Cards.{card_fault};
 ghost use Rattle.formats.specs.Checks.{IsCheckedView};
@@ -21,6 +22,17 @@ impl<'a> TryFrom<&'a [u8]> for Card<'a> {
         for processor in 0..header.processors() {
             Thread { header, processor }.check_instrs()?;
         }
-        Ok(Card { bytes })
+        Ok(Card::new(bytes))
+    }
+}
+
+impl<'a> Card<'a> {
+    // The card over bytes that are known to have no fault, as where they were checked before: nothing
+    // is checked again.
+    pub fn new(bytes: &'a [u8]) -> Card<'a>
+        requires { IsNone (card_fault bytes.now) }
+        ensures { result.bytes.now ≡ bytes.now }
+    {
+        Card { bytes }
     }
 }

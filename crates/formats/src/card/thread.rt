@@ -34,7 +34,9 @@ impl Thread<'_> {
         self.header.offset_at(self.processor) as usize + 4 * index as usize
     }
 
-    // The instruction at an index, or the refusal of bytes that stand for none.
+    // The instruction at an index, or the refusal of bytes that stand for none. Inlined into the check
+    // and the reader: out of line, a card's check takes nearly twice the time.
+    #[inline(always)]
     pub fn instr(&self, index: u8) -> Result<Instr, Refusal>
         requires { index < count_at self.now.header.bytes.now self.now.processor }
         ensures { result ≡ ok_or (decoded (instr_bytes self.now.header.bytes.now self.now.processor index)) Malformed }
@@ -48,14 +50,10 @@ impl Thread<'_> {
         requires { index < count_at self.now.header.bytes.now self.now.processor }
         ensures { result_err result ≡ instr_fault self.now.header.bytes.now self.now.processor index }
     {
-        let at = self.byte_of(index);
-        let instr = self
-            .instr(index)
-            .map_err(|refusal| Layer::Card.refuses(refusal, at))?;
-        if furthest_from(instr, index) > self.len() as usize {
-            return Err(Layer::Card.refuses(Refusal::Malformed, at));
+        match self.instr(index) {
+            Ok(instr) if furthest_from(instr, index) <= self.len() as usize => Ok(()),
+            _ => Err(Layer::Card.refuses(Refusal::Malformed, self.byte_of(index))),
         }
-        Ok(())
     }
 
     // Whether every instruction is one that stays in the thread, or the first fault.
