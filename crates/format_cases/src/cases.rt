@@ -7,11 +7,17 @@ pub struct Case {
     pub refused: Option<(Refusal, usize)>,
 }
 
-// Whether an answer is what a case expects of a layer.
+// Whether an answer is what a case expects of a layer. The fault is written out, and not made by
+// `refuses`, which makes those of the formats too.
 pub fn agrees<T: Drop>(
     answer: Result<T, Fault>,
     layer: Layer,
     refused: Option<(Refusal, usize)>,
 ) -> bool {
-    answer.err() == refused.map(|(refusal, place)| layer.refuses(refusal, place))
+    let expected = refused.map(|(refusal, place)| Fault {
+        refusal,
+        layer,
+        place,
+    });
+    answer.err() == expected
 }

@@ -1,4 +1,4 @@
-use Rattle.std.proofs.Common.{rules, tests}
+use Rattle.std.proofs.Common.{rules, tests, arith}
 use Rattle.std.proofs.lemmas.Iterator.{YieldsList-from_slice}
 use Rattle.std.proofs.lemmas.Iterator.Search.{any_from_yields_List}
 use Rattle.buffers.proofs.Searches.{passes}
@@ -10,4 +10,4 @@ returns g c =
     let xs = c.args.items.now in
     let some = any_from_yields_List t _ _ c.any.result c.any.ensures.ran (YieldsList-from_slice xs cc) (λ x b q k. search (rules, tests)) in
     let same = passes t xs in
-    cc
+    grind (arith, some, same)
