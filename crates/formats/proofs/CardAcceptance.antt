@@ -1,6 +1,6 @@
 -- A card has no fault exactly where it keeps every rule.
-use Rattle.std.proofs.Common.{◌≡◌, ℕ, ◌+◌, ◌*◌, ◌<◌, ◌≤◌, true, ◌&&◌, leb, List, length, ok_or, IsErrAnd, Some, None, Ok, Err, Option, Result, sym, refl, ap, ◌∙◌}
-use Rattle.std.proofs.lemmas.Bool.{and_from, and_parts, false≢true, le-leb, leb-true, lt-leb}
+use Rattle.std.proofs.Common.{◌≡◌, ℕ, ◌+◌, ◌*◌, ◌<◌, ◌≤◌, Bool, true, ◌&&◌, leb, List, length, ok_or, IsErrAnd, Some, None, Ok, Err, Option, Result, sym, refl, ap, ◌∙◌}
+use Rattle.std.proofs.lemmas.Bool.{and_from, and_parts, false≢true, le-leb, leb-true}
 use Rattle.model.specs.declared.fault.Fault.{Fault}
 use Rattle.model.specs.declared.fault.Refusal.{Refusal}
 use Rattle.model.specs.declared.fault.Refusal.TheVariants.{Malformed}
@@ -93,12 +93,9 @@ module _ (bs : List ℕ) (p i : ℕ) (r : Result Instr Refusal) (read : r ≡ ok
   is : (x : Instr) → r ≡ Ok x → fits (Some x) ≡ instr_fault bs p i
   is x e = ap fits (sym (read_is (decoded (instr_bytes bs p i)) x (sym read ∙ e)))
 
-  -- one that stays in its thread, one that does not, and bytes that stand for none
-  pub stays : (x : Instr) → r ≡ Ok x → furthest i x ≤ count_at bs p → None ≡ instr_fault bs p i
-  stays x e l = sym (ap (λ b. check b (card_refusal Malformed (instr_byte bs p i)) None) (le-leb (furthest i x) (count_at bs p) l)) ∙ is x e
-
-  pub leaves : (x : Instr) → r ≡ Ok x → count_at bs p < furthest i x → Some (card_refusal Malformed (instr_byte bs p i)) ≡ instr_fault bs p i
-  leaves x e l = sym (ap (λ b. check b (card_refusal Malformed (instr_byte bs p i)) None) (lt-leb (furthest i x) (count_at bs p) l)) ∙ is x e
+  -- an instruction by whether it stays in its thread, and bytes that stand for none
+  pub judged : (x : Instr) → r ≡ Ok x → (b : Bool) → b ≡ leb (furthest i x) (count_at bs p) → check b (card_refusal Malformed (instr_byte bs p i)) None ≡ instr_fault bs p i
+  judged x e b h = ap (λ b. check b (card_refusal Malformed (instr_byte bs p i)) None) h ∙ is x e
 
   pub unread : (refusal : Refusal) → r ≡ Err refusal → Some (card_refusal Malformed (instr_byte bs p i)) ≡ instr_fault bs p i
   unread refusal e = ap fits (sym (unread_is (decoded (instr_bytes bs p i)) refusal (sym read ∙ e)))

@@ -1,5 +1,5 @@
 // A thread of a card: where its instructions lie, and what they are.
-ghost use Rattle.std.specs.Prelude.{◌≡◌, ◌<◌, ok_or};
+ghost use Rattle.std.specs.Prelude.{◌≡◌, ◌<◌, nat_le, ok_or};
 ghost use Rattle.std.specs.Result.{result_err};
 ghost use Rattle.formats.specs.CardRules.{ThreadFits};
 ghost use Rattle.formats.specs.Cards.{count_at, furthest, instr_byte, instr_bytes, instr_fault, instrs_fault, processors_in};
@@ -51,8 +51,19 @@ impl Thread<'_> {
         ensures { result_err result ≡ instr_fault self.now.header.bytes.now self.now.processor index }
     {
         match self.instr(index) {
-            Ok(instr) if furthest_from(instr, index) <= self.len() as usize => Ok(()),
+            Ok(instr) if self.has_target(instr, index) => Ok(()),
             _ => Err(Layer::Card.refuses(Refusal::Malformed, self.byte_of(index))),
+        }
+    }
+
+    // Whether control stays in the thread from an instruction: a branch may go as far as its end.
+    fn has_target(&self, instr: Instr, index: u8) -> bool
+        requires { index < count_at self.now.header.bytes.now self.now.processor }
+        ensures { result ≡ nat_le (furthest index instr) (count_at self.now.header.bytes.now self.now.processor) }
+    {
+        match instr {
+            Instr::Branch { skip, .. } => skip < self.len() - index,
+            _other => true,
         }
     }
 
@@ -65,16 +76,5 @@ impl Thread<'_> {
             self.check_instr(index)?;
         }
         Ok(())
-    }
-}
-
-// The furthest place that control goes to from an instruction.
-fn furthest_from(instr: Instr, index: u8) -> usize
-    ensures { result ≡ furthest index instr }
-{
-    let next = index as usize + 1;
-    match instr {
-        Instr::Branch { skip, .. } => next + skip as usize,
-        _other => next,
     }
 }
